@@ -22,7 +22,7 @@ pub enum Cut {
 }
 
 /// What an invocation calls.
-#[derive(Debug, Drop)]
+#[derive(Clone, Debug, Drop, PartialEq, Eq)]
 pub struct Call {
     pub function: Words,
     pub args: List<Value>,

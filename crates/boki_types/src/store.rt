@@ -8,7 +8,7 @@ pub struct Name {
 }
 
 /// A live logged write that a sweep passes: its object, its seqnum, its name, and its value where the record holds it.
-#[derive(Debug, Drop)]
+#[derive(Clone, Debug, Drop, PartialEq, Eq)]
 pub struct Settled {
     pub key: Words,
     pub seq: Seqnum,
@@ -33,7 +33,7 @@ pub enum Put {
 }
 
 /// What a fenced read answers.
-#[derive(Debug, Drop)]
+#[derive(Clone, Debug, Drop, PartialEq, Eq)]
 pub enum Fenced {
     Found(Value),
     Missing,
@@ -41,14 +41,14 @@ pub enum Fenced {
 }
 
 /// What a read of an object answers, with nothing where there is none; `Gone` where the position is below the floor.
-#[derive(Debug, Drop)]
+#[derive(Clone, Debug, Drop, PartialEq, Eq)]
 pub enum Answered {
     Value(Value),
     Gone,
 }
 
 /// What a read of several objects answers: a value for each, or `Gone` where the position is below the floor.
-#[derive(Debug, Drop)]
+#[derive(Clone, Debug, Drop, PartialEq, Eq)]
 pub enum GroupAnswer {
     Values(List<Value>),
     Gone,

@@ -2,7 +2,7 @@ use crate::plan::Plan;
 use lb_base::{List, Outcome, Path, Value, Words};
 
 /// A turn of the failure-free execution.
-#[derive(Debug, Drop)]
+#[derive(Clone, Debug, Drop, PartialEq, Eq)]
 pub enum Turn {
     /// The request becomes known, with the function of this number.
     Submit {
@@ -17,7 +17,7 @@ pub enum Turn {
 }
 
 /// What a run has come to: its turns in order, the results by path, and the objects, queues and store names by name.
-#[derive(Debug, Drop)]
+#[derive(Clone, Debug, Drop, PartialEq, Eq)]
 pub struct Report {
     pub turns: List<Turn>,
     pub results: List<(Path, Outcome)>,

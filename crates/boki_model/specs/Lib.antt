@@ -1,0 +1,12 @@
+pub mod Maps
+pub mod Order
+pub mod Live
+pub mod Reads
+pub mod Bodies
+pub mod Modes
+pub mod Floor
+pub mod Writes
+pub mod Values
+pub mod Script
+pub mod Folds
+pub mod Plans
