@@ -1,5 +1,5 @@
 -- What records say: their tags, and which of them have their fields in range.
-use Rattle.std.specs.Prelude.{ℕ, suc, ◌+◌, ◌*◌, ◌%◌, ◌^◌, ◌&&◌, ◌||◌, not, nat_le, nat_lt, ◌==◌, Bool, true, false, List, [], ◌∷◌, ◌++◌, length, Option, Some, None, bit_xor, bytes_eq, codes, get_or}
+use Rattle.std.specs.Prelude.{ℕ, ℤ, pos, negsuc, int_lt, int_le, suc, ◌+◌, ◌-◌, ◌*◌, ◌%◌, ◌^◌, ◌&&◌, ◌||◌, not, nat_le, nat_lt, ◌==◌, Bool, true, false, List, [], ◌∷◌, ◌++◌, length, Option, Some, None, bit_xor, bytes_eq, codes, get_or}
 use Rattle.std.specs.List.{list_all, list_any}
 use Rattle.lb_base.specs.declared.value.Tag.{Tag}
 use Rattle.lb_base.specs.declared.value.Value.{Value}
@@ -9,6 +9,7 @@ use Rattle.lb_base.specs.declared.value.Mode.TheVariants.{R, W, T}
 use Rattle.lb_base.specs.declared.value.Outcome.{Outcome}
 use Rattle.lb_base.specs.declared.value.Outcome.TheVariants.{Good, Trap}
 use Rattle.lb_base.specs.declared.value.Cond.{Cond}
+use Rattle.lb_base.specs.Path.{is_path, is_ordinal}
 use Rattle.boki_types.specs.declared.body.Body.{Body}
 use Rattle.boki_types.specs.declared.body.Body.TheVariants as b
 
@@ -92,17 +93,13 @@ step_of _ = None
 abbrev pub is_word : ℕ → Bool
 is_word n = nat_lt n (2 ^ 64)
 
--- a request, from 1 to 1,048,575, and then up to three ordinals, each from 1 to 4,095
-abbrev pub is_ordinal : ℕ → Bool
-is_ordinal n = nat_le 1 n && nat_le n 4095
-
-abbrev pub is_path : List ℕ → Bool
-is_path [] = false
-is_path (n ∷ ns) = nat_le 1 n && nat_le n 1048575 && nat_le (length ns) 3 && list_all is_ordinal ns
+-- an integer has 64 bits
+abbrev pub fits : ℤ → Bool
+fits n = int_le (negsuc (2 ^ 63 - 1)) n && int_lt n (pos (2 ^ 63))
 
 -- a text value has at most 256 bytes, and a name, of an object, a queue or a store entry, 1 to 64
 abbrev pub is_value : Value → Bool
-is_value (Int n) = true
+is_value (Int n) = fits n
 is_value (Text t) = nat_le (length t) 256
 is_value Nothing = true
 

@@ -2,7 +2,7 @@
 -- shard: its records up to that count are ordered. An entry adds the records between the last vector's counts and its own,
 -- shard by shard in ascending number. A record's seqnum is its place in the ordered list, from 1.
 -- Here vectors and the ordered list stand with the newest first, so that what is added stands in front.
-use Rattle.std.specs.Prelude.{ℕ, zero, suc, ◌-◌, min, List, [], ◌∷◌, ◌++◌, take, drop, reverse, length}
+use Rattle.std.specs.Prelude.{ℕ, suc, min, ◌==◌, ◌&&◌, cond, List, [], ◌∷◌, ◌++◌, take, drop, reverse, length, Option, Some, None}
 
 -- the first count of a vector; a count that is missing is 0
 abbrev pub first_count : List ℕ → ℕ
@@ -52,3 +52,32 @@ abbrev pub progress : {A : Type 0} → List (List A) → List (List ℕ) → Lis
 progress [] counts = []
 progress (s ∷ ss) [] = length s ∷ progress ss []
 progress (s ∷ ss) (c ∷ cs) = least_count (length s) c ∷ progress ss cs
+
+-- Where an ordered record stands in its shard, both numbers from 1: the order of the places themselves.
+abbrev pub places_from : {A : Type 0} → ℕ → ℕ → List A → List (ℕ × ℕ)
+places_from shard local [] = []
+places_from shard local (r ∷ rs) = (shard, suc local) ∷ places_from shard (suc local) rs
+
+abbrev pub places : {A : Type 0} → ℕ → List (List A) → List (List (ℕ × ℕ))
+places shard [] = []
+places shard (s ∷ ss) = places_from (suc shard) 0 s ∷ places (suc shard) ss
+
+abbrev pub ordered_places : {A : Type 0} → List (List A) → List (List ℕ) → List (ℕ × ℕ)
+ordered_places shards vectors = order (places 0 shards) vectors
+
+-- the seqnum of a shard's record, in a list with the newest first
+abbrev pub seq_in : ℕ → ℕ → List (ℕ × ℕ) → Option ℕ
+seq_in shard local [] = None
+seq_in shard local (p ∷ ps) = cond ((shard == p.0) && (local == p.1)) (Some (suc (length ps))) (seq_in shard local ps)
+
+abbrev pub seq_of : {A : Type 0} → ℕ → ℕ → List (List A) → List (List ℕ) → Option ℕ
+seq_of shard local shards vectors = seq_in shard local (ordered_places shards vectors)
+
+-- what stands at a seqnum of a list with the newest first
+abbrev pub at_seq : {A : Type 0} → ℕ → List A → Option A
+at_seq seq [] = None
+at_seq seq (x ∷ xs) = cond (seq == suc (length xs)) (Some x) (at_seq seq xs)
+
+-- the shard and the local number of the record at a seqnum
+abbrev pub locate : {A : Type 0} → ℕ → List (List A) → List (List ℕ) → Option (ℕ × ℕ)
+locate seq shards vectors = at_seq seq (ordered_places shards vectors)

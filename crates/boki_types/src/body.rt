@@ -5,7 +5,7 @@ use lb_base::{List, Mode, Outcome, Path, Value, Words};
 /// A *step record* is one of an invocation's own steps: all variants with a path but `Submit`. Its `index` is 1 for `Init`
 /// (which is not stored), the number of the operation, from 1, for an operation, and the number of operations plus 1 for
 /// `Finish`.
-#[derive(Clone, Debug, Drop, PartialEq, Eq)]
+#[derive(Clone, Debug, Drop)]
 pub enum Body {
     /// A request, a path of one number, and the function that it calls.
     Submit {

@@ -1,0 +1,3 @@
+//! Definitions of the log, the store, scripts and plans, in `specs/`, and their first laws: functions with an empty body, each
+//! of which has its law as its contract.
+#![tactic(auto)]
