@@ -223,7 +223,7 @@ set_targets _ vs t = t
 
 abbrev pub joined_with : Target → Outcome → State → Result State TrapKind
 joined_with target (Good v) t = Ok (set_target target v t)
-joined_with target (Trap kind) t = Err trap.Join
+joined_with target (Trap why) t = Err trap.Join
 
 abbrev pub answered : Op → Target → Answer → State → Option (Result State TrapKind)
 answered (o.Read key) target (a.Value v) t = Some (Ok (set_target target v t))
@@ -241,7 +241,7 @@ answered _ target _ t = None
 
 abbrev pub continued : List Function → ℕ → List Stmt → Result State TrapKind → Standing
 continued fs depth lines (Ok t) = run fs depth lines t
-continued fs depth lines (Err kind) = Ended (Trap kind)
+continued fs depth lines (Err why) = Ended (Trap why)
 
 abbrev pub resume : List Function → ℕ → Answer → Standing → Option Standing
 resume fs depth answer (Asks op target lines t) = option_map (continued fs depth lines) (answered op target answer t)
