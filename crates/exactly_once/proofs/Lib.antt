@@ -1,3 +1,15 @@
 pub mod Tails
 pub mod Lives
 pub mod Exclusion
+pub mod Maps
+pub mod Each
+pub mod Lasts
+pub mod Positions
+pub mod Points
+pub mod Frees
+pub mod Goes
+pub mod Stages
+pub mod FreeTurns
+pub mod Looks
+pub mod Operations
+pub mod OperationTurns
