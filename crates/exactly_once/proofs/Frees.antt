@@ -75,8 +75,8 @@ module _ (fs : List Function) (store : Store) (records : List (Live Body)) (path
     answer = answer;
     free = free;
     is =
-      ap (λ m. and_answer (free_answer store records st.cursor m st.mode (asked_at fs path st (on n))) (on n)) (let e : length (on n) - length st.answers ≡ n = omega arith in e)
-      ∙ ap (λ o. and_answer o (on n)) free;
+        ap (λ m. and_answer (free_answer store records st.cursor m st.mode (asked_at fs path st (on n))) (on n)) (let e : length (on n) - length st.answers ≡ n = omega arith in e)
+        ∙ ap (λ o. and_answer o (on n)) free;
     before = long;
   }
 

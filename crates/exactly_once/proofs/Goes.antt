@@ -22,6 +22,10 @@ use Rattle.exactly_once.proofs.Maps.{get-put, get_here, get_other, keys_cases, s
 abbrev pub AreLast : Store → List (Live Body) → ℕ → ℕ → List (List ℕ × Value) → Type 0
 AreLast store records c k objects = (key : List ℕ) → get key objects ≡ last key c k store records
 
+pub objects_below : (store : Store) (records : List (Live Body)) (c : ℕ) (objects : List (List ℕ × Value)) (keys : List (List ℕ)) → AreLast store records c 0 objects → map (λ key. unwrap_or (get key objects) Nothing) keys ≡ values_below c 0 store records keys
+objects_below store records c objects [] are = refl
+objects_below store records c objects (key ∷ keys) are = λ i. unwrap_or (are key i) Nothing ∷ objects_below store records c objects keys are i
+
 abbrev pub OthersAre : List ℕ → (List ℕ → Option Invocation) → List (List ℕ × Invocation) → Type 0
 OthersAre p others m = (q : List ℕ) → bytes_eq q p ≡ false → get q m ≡ others q
 
@@ -73,8 +77,11 @@ module _ (fs : List Function) (store : Store) (records : List (Live Body)) (p : 
     state = so_far.state;
     defined = so_far.defined;
     is = record {
-      here = so_far.is.here; others_are = so_far.is.others_are; objects = λ key. so_far.is.objects key ∙ same key;
-      queues_are = so_far.is.queues_are; names_are = so_far.is.names_are
+      here = so_far.is.here;
+      others_are = so_far.is.others_are;
+      objects = λ key. so_far.is.objects key ∙ same key;
+      queues_are = so_far.is.queues_are;
+      names_are = so_far.is.names_are;
     };
   }
 
@@ -89,23 +96,17 @@ module _ (fs : List Function) (store : Store) (records : List (Live Body)) (p : 
     is = record {
       here = get_here p (answering i answer) so_far.state.invocations;
       others_are = others_put p others (answering i answer) so_far.state.invocations so_far.is.others_are;
-      objects = so_far.is.objects; queues_are = so_far.is.queues_are; names_are = so_far.is.names_are
+      objects = so_far.is.objects;
+      queues_are = so_far.is.queues_are;
+      names_are = so_far.is.names_are;
     };
   }
-
-  objects_last : (c k : ℕ) (objects : List (List ℕ × Value)) (keys : List (List ℕ)) → AreLast store records c k objects → map (λ key. unwrap_or (get key objects) Nothing) keys ≡ map (λ key. or_none (last key c k store records)) keys
-  objects_last c k objects [] are = refl
-  objects_last c k objects (key ∷ keys) are = λ i. unwrap_or (are key i) Nothing ∷ objects_last c k objects keys are i
-
-  values_last : (c : ℕ) (keys : List (List ℕ)) → map (λ key. or_none (last key c 0 store records)) keys ≡ values_below c 0 store records keys
-  values_last c [] = refl
-  values_last c (key ∷ keys) = ap (λ vs. or_none (last key c 0 store records) ∷ vs) (values_last c keys)
 
   pub reads : (s : Ideal) (i : Invocation) (c k : ℕ) (key : List ℕ) → AreLast store records c k s.objects → asked_by fs p i ≡ Some (asks.Op (o.Read key)) → ideal.operated p i s (asked_by fs p i) ≡ Some (ideal.answers p i (a.Value (or_none (last key c k store records))) s)
   reads s i c k key are asked = ap (ideal.operated p i s) asked ∙ ap (λ v. Some (ideal.answers p i (a.Value (unwrap_or v Nothing)) s)) (are key)
 
   pub reads_all : (s : Ideal) (i : Invocation) (c : ℕ) (keys : List (List ℕ)) → AreLast store records c 0 s.objects → asked_by fs p i ≡ Some (asks.Op (o.ReadGroup keys)) → ideal.operated p i s (asked_by fs p i) ≡ Some (ideal.answers p i (a.Values (values_below c 0 store records keys)) s)
-  reads_all s i c keys are asked = ap (ideal.operated p i s) asked ∙ ap (λ vs. Some (ideal.answers p i (a.Values vs) s)) (objects_last c 0 s.objects keys are ∙ values_last c keys)
+  reads_all s i c keys are asked = ap (ideal.operated p i s) asked ∙ ap (λ vs. Some (ideal.answers p i (a.Values vs) s)) (objects_below store records c s.objects keys are)
 
   -- a write at the position
   pub put_last : (c k : ℕ) (key : List ℕ) (value : Value) (objects : List (List ℕ × Value)) → AreLast store records c k objects → last key c (suc k) store records ≡ Some value → ((q : List ℕ) → bytes_eq q key ≡ false → last q c k store records ≡ last q c (suc k) store records) → AreLast store records c (suc k) (put key value objects)
@@ -121,6 +122,7 @@ module _ (fs : List Function) (store : Store) (records : List (Live Body)) (p : 
       here = get_here p (answering i a.Done) so_far.state.invocations;
       others_are = others_put p others (answering i a.Done) so_far.state.invocations so_far.is.others_are;
       objects = put_last c k key value so_far.state.objects so_far.is.objects own other;
-      queues_are = so_far.is.queues_are; names_are = so_far.is.names_are
+      queues_are = so_far.is.queues_are;
+      names_are = so_far.is.names_are;
     };
   }

@@ -13,3 +13,6 @@ pub mod FreeTurns
 pub mod Looks
 pub mod Operations
 pub mod OperationTurns
+pub mod Transactions
+pub mod Calls
+pub mod Simulates

@@ -19,7 +19,7 @@ use Rattle.boki_model.specs.Folds.{Commit, queues, commits, stored, written}
 use Rattle.boki_machine.specs.Attempt.{call_in, call_of}
 use Rattle.boki_machine.specs.Decided.{Point, unknown, more, function_of}
 use Rattle.boki_machine.specs.Turns.{until}
-use Rattle.boki_machine.specs.Ideal.{Invocation, Ideal, Dirty, go}
+use Rattle.boki_machine.specs.Ideal.{Invocation, Ideal, Dirty, invoked, go}
 use Rattle.exactly_once.specs.Sound.{Reaches, frees_to, standing_at, MayStand, AllFit}
 use Rattle.exactly_once.proofs.Lives.{Under}
 use Rattle.exactly_once.proofs.Positions.{Numbered}
@@ -49,8 +49,11 @@ where_begun false l = []
 abbrev pub look : List Function → Store → Option ℕ → List (Live Body) → List ℕ → List Commit → Point → Option Call → Option Invocation
 look fs store a records path cs st None = None
 look fs store a records path cs st (Some call) = Some (record {
-  function = function_of fs (Some call); args = call.args; answers = where_begun st.begun (more fs store records path st (frees a store st));
-  result = st.result; transaction = open_since cs st.transaction
+  function = function_of fs (Some call);
+  args = call.args;
+  answers = where_begun st.begun (more fs store records path st (frees a store st));
+  result = st.result;
+  transaction = open_since cs st.transaction;
 })
 
 module _ (setup : Setup) (fs : List Function) (store : Store) where
@@ -87,14 +90,20 @@ module _ (setup : Setup) (fs : List Function) (store : Store) where
       ap (λ l. Some (record { function = function_of fs (Some call); args = call.args; answers = where_begun st.begun l; result = st.result; transaction = open_since cs st.transaction }))
       (more_older store x xs fs q st (frees a store st) lt)
 
+  pub frame_with :
+      (a : Option ℕ) (x : Live Body) (xs : List (Live Body)) (q : List ℕ) (cs : List Commit) → (stands setup fs store q xs).cursor < x.seq → stands setup fs store q (x ∷ xs) ≡ stands setup fs store q xs
+      → call_in q x.holds ≡ None → look fs store a (x ∷ xs) q cs (stands setup fs store q (x ∷ xs)) (call_of q (x ∷ xs)) ≡ look fs store a xs q cs (stands setup fs store q xs) (call_of q xs)
+  frame_with a x xs q cs lt is call =
+      ap (λ st. look fs store a (x ∷ xs) q cs st (call_of q (x ∷ xs))) is
+      ∙ ap (look fs store a (x ∷ xs) q cs (stands setup fs store q xs)) (same_call q x xs call)
+      ∙ same_look a x xs q cs (stands setup fs store q xs) (call_of q xs) lt
+
   pub frame :
       (a : Option ℕ) (x : Live Body) (xs : List (Live Body)) (q : List ℕ) → (stands setup fs store q xs).cursor < x.seq → stands setup fs store q (x ∷ xs) ≡ stands setup fs store q xs
       → call_in q x.holds ≡ None → commits (x ∷ xs) ≡ commits xs → expected a (x ∷ xs) q ≡ expected a xs q
   frame a x xs q lt is call cs =
       ap (λ cs. look fs store a (x ∷ xs) q cs (stands setup fs store q (x ∷ xs)) (call_of q (x ∷ xs))) cs
-      ∙ ap (λ st. look fs store a (x ∷ xs) q (commits xs) st (call_of q (x ∷ xs))) is
-      ∙ ap (look fs store a (x ∷ xs) q (commits xs) (stands setup fs store q xs)) (same_call q x xs call)
-      ∙ same_look a x xs q (commits xs) (stands setup fs store q xs) (call_of q xs) lt
+      ∙ frame_with a x xs q (commits xs) lt is call
 
   -- an invocation that runs
   pub look_running : (a : Option ℕ) (xs : List (Live Body)) (q : List ℕ) (st : Point) → stands setup fs store q xs ≡ st → AllFit setup fs store xs → st.begun ≡ true → st.result ≡ None → expected a xs q ≡ Some (running_at st (more fs store xs q st (frees a store st)) (open_since (commits xs) st.transaction))
@@ -105,9 +114,18 @@ module _ (setup : Setup) (fs : List Function) (store : Store) where
       ap (λ st. look fs store a xs q (commits xs) st (call_of q xs)) is
       ∙ ap (look fs store a xs q (commits xs) st) was.called
       ∙ (λ i. Some (record {
-        function = sym by_function i; args = sym by_args i; answers = where_begun (begun i) (more fs store xs q st (frees a store st));
-        result = unended i; transaction = open_since (commits xs) st.transaction
+        function = sym by_function i;
+        args = sym by_args i;
+        answers = where_begun (begun i) (more fs store xs q st (frees a store st));
+        result = unended i;
+        transaction = open_since (commits xs) st.transaction;
       }))
+
+  -- one that is called and has not begun
+  pub look_new : (a : Option ℕ) (xs : List (Live Body)) (q : List ℕ) (call : Call) → stands setup fs store q xs ≡ unknown → call_of q xs ≡ Some call → expected a xs q ≡ Some (invoked (function_of fs (Some call)) call.args)
+  look_new a xs q call is called =
+      ap (λ st. look fs store a xs q (commits xs) st (call_of q xs)) is
+      ∙ ap (look fs store a xs q (commits xs) unknown) called
 
   -- The turn of a step record, once its own operation has run.
   module _ (x : Live Body) (xs : List (Live Body)) (m : ℕ) (is_seq : x.seq ≡ suc m) (under : Under m xs) (fit : AllFit setup fs store (x ∷ xs)) (ahead : List (List ℕ × ℕ)) where
@@ -153,8 +171,8 @@ module _ (setup : Setup) (fs : List Function) (store : Store) where
       step_turn index own e stand next after =
           let numbered = stand_numbered fs store (x ∷ xs) p (stands setup fs store p (x ∷ xs)) (stands setup fs store p (x ∷ xs)).result (stands setup fs store p (x ∷ xs)).mode (standing_at x.seq store.versions) stand in
           let stand' : MayStand fs store (x ∷ xs) p st None st.mode (standing_at x.seq store.versions) =
-              subst (λ r. MayStand fs store (x ∷ xs) p st r st.mode (standing_at x.seq store.versions)) unended
-              (subst (λ (st : Point). MayStand fs store (x ∷ xs) p st st.result st.mode (standing_at x.seq store.versions)) is stand) in
+          subst (λ r. MayStand fs store (x ∷ xs) p st r st.mode (standing_at x.seq store.versions)) unended
+          (subst (λ (st : Point). MayStand fs store (x ∷ xs) p st st.result st.mode (standing_at x.seq store.versions)) is stand) in
           let next' : Next (get p ahead) (x ∷ xs) p st = subst (Next (get p ahead) (x ∷ xs) p) is next in
           subst (λ n. Went n p s) (sym (count (get p ahead) index own e next'))
           (went (own + frees (get p ahead) store st)

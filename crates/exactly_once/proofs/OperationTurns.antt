@@ -22,19 +22,19 @@ use Rattle.boki_model.specs.Modes as modes
 use Rattle.boki_model.specs.Writes.{Store, Write, write_at, versions_at, if_key, logged_write, here_or_named, last}
 use Rattle.boki_model.specs.Folds.{queues, commits, stored, pushed, popped, front}
 use Rattle.boki_machine.specs.Attempt.{call_in, call_of}
-use Rattle.boki_machine.specs.Decided.{Point, unknown, or_none, values_below, function_of, more}
+use Rattle.boki_machine.specs.Decided.{Point, unknown, or_none, values_below, function_of, more, joined}
 use Rattle.boki_machine.specs.Turns.{until}
 use Rattle.boki_machine.specs.Ideal.{Invocation, Ideal, invoked}
 use Rattle.boki_machine.specs.Ideal as ideal
 use Rattle.exactly_once.specs.Sound.{Reaches, Asks, MayWrite, MaySpawn, MayJoin, frees_to, AllFit}
 use Rattle.exactly_once.proofs.Lives.{Under}
-use Rattle.exactly_once.proofs.Maps.{same_itself, get_here, get_other, keys_cases}
+use Rattle.exactly_once.proofs.Maps.{same_itself, get_here, get_other, keys_cases, other_way}
 use Rattle.exactly_once.proofs.Stages.{stage_before, stage_other, stage_write}
 use Rattle.exactly_once.proofs.Points.{stands, uncalled, is_called, result_is, IsCalled}
 use Rattle.exactly_once.proofs.Frees.{on}
-use Rattle.exactly_once.proofs.Goes.{AreLast, OthersAre, others_put, IsState, reads, reads_all, put_last}
+use Rattle.exactly_once.proofs.Goes.{AreLast, OthersAre, others_put, IsState, objects_below, put_last}
 use Rattle.exactly_once.proofs.FreeTurns.{running_at}
-use Rattle.exactly_once.proofs.Looks.{open_since, look, frees, expected, Agrees, Valid, Went}
+use Rattle.exactly_once.proofs.Looks.{open_since, look, look_new, frees, expected, Agrees, Valid, Went}
 use Rattle.exactly_once.proofs.Operations.{stands_apart, numbered_own, others_kept, before_other, frame_other, objects_kept, at_operation, before_own, operation_goes}
 
 module _ (setup : Setup) (fs : List Function) (store : Store) where
@@ -65,7 +65,7 @@ module _ (setup : Setup) (fs : List Function) (store : Store) (seq : ℕ) (tags 
         (answer : Answer) (s' : Ideal) → s'.invocations ≡ s.invocations → ((q : List ℕ) → bytes_eq q p ≡ false → call_in q body ≡ None) → commits (holding body ∷ xs) ≡ commits xs
         → AreLast store (holding body ∷ xs) seq 1 s'.objects → s'.queues ≡ queues (holding body ∷ xs) → s'.names ≡ stored (commits (holding body ∷ xs))
         → IsState fs store (holding body ∷ xs) p others_now (queues (holding body ∷ xs)) (stored (commits (holding body ∷ xs)))
-            (record own_of { answers = answer ∷ own_of.answers }) seq 1 (ideal.answers p own_of answer s')
+        (record own_of { answers = answer ∷ own_of.answers }) seq 1 (ideal.answers p own_of answer s')
     answered_state answer s' same no_call cs objects queues_are names_are = record {
       here = get_here p (record own_of { answers = answer ∷ own_of.answers }) s'.invocations;
       others_are = others_put p others_now (record own_of { answers = answer ∷ own_of.answers }) s'.invocations
@@ -125,7 +125,7 @@ module _ (setup : Setup) (fs : List Function) (store : Store) (seq : ℕ) (tags 
       let before : Invocation = at_operation setup fs store x xs p i refl m is_seq under fit ahead s agrees may.asks.reaches in
       let own : Answer = a.Joined may.outcome in
       let result : ideal.result_of (child p ordinal) s ≡ Some may.outcome =
-          ap (option_and_then (λ (i : Invocation). i.result)) (agrees.invocations (child p ordinal)) ∙ expected_result setup fs store (get (child p ordinal) (put p i ahead)) xs (child p ordinal) fit.2 ∙ may.result in
+      ap (option_and_then (λ (i : Invocation). i.result)) (agrees.invocations (child p ordinal)) ∙ expected_result setup fs store (get (child p ordinal) (put p i ahead)) xs (child p ordinal) fit.2 ∙ may.result in
       operation_goes setup fs store x xs p i refl m is_seq under fit ahead s agrees may.asks.reaches valid refl own (ap joined may.result) (o.Join ordinal) may.asks.asked
       (ideal.answers p before own s) (ap (λ r. ideal.joins p before r s) result)
       (answered_state (b.Join p i ordinal) refl fit may.asks.reaches own s refl (λ q e. refl) refl
@@ -139,7 +139,7 @@ module _ (setup : Setup) (fs : List Function) (store : Store) (seq : ℕ) (tags 
       let numbered = numbered_own setup fs store x xs p i refl m is_seq under fit ahead s agrees in
       let after : Ideal = record s { objects = put key may.value s.objects } in
       let is : if_key key seq store.named (logged_write x.holds) ≡ Some (write_at seq 0 may.value) =
-          ap (λ t. cond t (option_map (write_at seq 0) (here_or_named here (record { path = p; place = place }) store.named)) None) (same_itself key) ∙ ap (option_map (write_at seq 0)) may.kept in
+      ap (λ t. cond t (option_map (write_at seq 0) (here_or_named here (record { path = p; place = place }) store.named)) None) (same_itself key) ∙ ap (option_map (write_at seq 0)) may.kept in
       operation_goes setup fs store x xs p i refl m is_seq under fit ahead s agrees may.asks.reaches valid refl a.Done refl (o.Write key may.value) may.asks.asked
       (ideal.answers p before a.Done after) refl
       (answered_state (b.Write p i place key here) refl fit may.asks.reaches a.Done after refl (λ q e. refl) refl
@@ -148,20 +148,52 @@ module _ (setup : Setup) (fs : List Function) (store : Store) (seq : ℕ) (tags 
       (λ q e. stage_other store x xs m is_seq under numbered q (ap (λ t. cond t (option_map (write_at seq 0) (here_or_named here (record { path = p; place = place }) store.named)) None) e)))
       agrees.queues_are agrees.names_are)
 
-  pub spawn_turn : (ordinal : ℕ) (name : List ℕ) (args : List Value) (fit : AllFit setup fs store (holding (b.Spawn p i ordinal name args) ∷ xs)) → Turns (b.Spawn p i ordinal name args) fit
-  spawn_turn ordinal name args fit valid =
-      operation_goes setup fs store x xs p i refl m is_seq under fit ahead s agrees may.asks.reaches valid refl own refl (o.Spawn ordinal may.function args) may.asks.asked
-      (ideal.with_invocation (child p ordinal) (invoked may.function args) (ideal.answers p before own s)) refl
-      (record {
-        here = get_other p (child p ordinal) (invoked may.function args) answered not_itself ∙ get_here p own_answered s.invocations;
-        others_are = λ q e. at q e (keys_cases q (child p ordinal));
-        objects = objects_kept setup fs store x xs p i refl m is_seq under fit ahead s agrees (λ key. refl);
-        queues_are = agrees.queues_are;
-        names_are = agrees.names_are;
-      })
-    where
-      abbrev x : Live Body
-      x = holding (b.Spawn p i ordinal name args)
+  -- a child that is spawned is new
+  module _ (ordinal : ℕ) (name : List ℕ) (args : List Value) (fit : AllFit setup fs store (holding (b.Spawn p i ordinal name args) ∷ xs)) where
+    abbrev may_spawn : MaySpawn fs store xs p (stands setup fs store p xs) i ordinal name args
+    may_spawn = fit.0
 
-      abbrev may : MaySpawn fs store xs p (stands setup fs store p xs) i ordinal name args
-      may = fit.0
+    abbrev own_spawned : Invocation
+    own_spawned = at_operation setup fs store (holding (b.Spawn p i ordinal name args)) xs p i refl m is_seq under fit ahead s agrees may_spawn.asks.reaches
+
+    not_child : bytes_eq p (child p ordinal) ≡ false
+    not_child = at (keys_cases p (child p ordinal))
+      where
+        at : (p ≡ child p ordinal) ⊎ (bytes_eq p (child p ordinal) ≡ false) → bytes_eq p (child p ordinal) ≡ false
+        at (inl same) =
+            let was : IsCalled setup fs store p xs (stands setup fs store p xs) = is_called setup fs store xs p fit.2 may_spawn.asks.reaches.begun in
+            let none : call_of p xs ≡ None = ap (λ q. call_of q xs) same ∙ may_spawn.unknown in
+            let called = was.called in cc
+        at (inr e) = e
+
+    child_is : expected setup fs store (get (child p ordinal) ahead) (holding (b.Spawn p i ordinal name args) ∷ xs) (child p ordinal) ≡ Some (invoked may_spawn.function args)
+    child_is =
+        look_new setup fs store (get (child p ordinal) ahead) (holding (b.Spawn p i ordinal name args) ∷ xs) (child p ordinal) (record { function = name; args = args })
+        (stands_apart setup fs store (holding (b.Spawn p i ordinal name args)) xs p i refl (child p ordinal) (other_way p (child p ordinal) not_child) ∙ uncalled setup fs store xs (child p ordinal) fit.2 may_spawn.unknown)
+        (ap (λ o. or_else o (call_in (child p ordinal) (b.Spawn p i ordinal name args))) may_spawn.unknown ∙ ap (λ t. cond t (Some (record { function = name; args = args })) None) (same_itself (child p ordinal)))
+        ∙ ap (λ f. Some (invoked (unwrap_or f 0) args)) may_spawn.found
+
+    spawn_others : (before : List (List ℕ × Invocation)) → OthersAre p (λ q. get q s.invocations) before → (q : List ℕ) → bytes_eq q p ≡ false → get q (put (child p ordinal) (invoked may_spawn.function args) before) ≡ expected setup fs store (get q ahead) (holding (b.Spawn p i ordinal name args) ∷ xs) q
+    spawn_others before same_others q e = at (keys_cases q (child p ordinal))
+      where
+        at : (q ≡ child p ordinal) ⊎ (bytes_eq q (child p ordinal) ≡ false) → get q (put (child p ordinal) (invoked may_spawn.function args) before) ≡ expected setup fs store (get q ahead) (holding (b.Spawn p i ordinal name args) ∷ xs) q
+        at (inl same) =
+            subst (λ q. get q (put (child p ordinal) (invoked may_spawn.function args) before) ≡ expected setup fs store (get q ahead) (holding (b.Spawn p i ordinal name args) ∷ xs) q) (sym same)
+            (get_here (child p ordinal) (invoked may_spawn.function args) before ∙ sym child_is)
+        at (inr f) =
+            get_other q (child p ordinal) (invoked may_spawn.function args) before f ∙ same_others q e
+            ∙ before_other setup fs store (holding (b.Spawn p i ordinal name args)) xs p i refl m is_seq under fit ahead s agrees q e
+            ∙ sym (frame_other setup fs store (holding (b.Spawn p i ordinal name args)) xs p i refl m is_seq under fit ahead s agrees q e (ap (λ t. cond t (Some (record { function = name; args = args })) None) f) refl)
+
+    pub spawn_turn : Turns (b.Spawn p i ordinal name args) fit
+    spawn_turn valid =
+        operation_goes setup fs store (holding (b.Spawn p i ordinal name args)) xs p i refl m is_seq under fit ahead s agrees may_spawn.asks.reaches valid refl (a.Spawned ordinal) refl (o.Spawn ordinal may_spawn.function args) may_spawn.asks.asked
+        (ideal.with_invocation (child p ordinal) (invoked may_spawn.function args) (ideal.answers p own_spawned (a.Spawned ordinal) s)) refl
+        (record {
+          here = get_other p (child p ordinal) (invoked may_spawn.function args) (put p (record own_spawned { answers = a.Spawned ordinal ∷ own_spawned.answers }) s.invocations) not_child
+              ∙ get_here p (record own_spawned { answers = a.Spawned ordinal ∷ own_spawned.answers }) s.invocations;
+          others_are = spawn_others (put p (record own_spawned { answers = a.Spawned ordinal ∷ own_spawned.answers }) s.invocations) (others_put p (λ q. get q s.invocations) (record own_spawned { answers = a.Spawned ordinal ∷ own_spawned.answers }) s.invocations (λ q e. refl));
+          objects = objects_kept setup fs store (holding (b.Spawn p i ordinal name args)) xs p i refl m is_seq under fit ahead s agrees (λ key. refl);
+          queues_are = agrees.queues_are;
+          names_are = agrees.names_are;
+        })

@@ -80,7 +80,7 @@ module _ (setup : Setup) (fs : List Function) (store : Store) (x : Live Body) (x
           → (op : Op) → asked_at fs p (stands setup fs store p xs) (on fs store xs p (stands setup fs store p xs) (frees_to i (stands setup fs store p xs))) ≡ Some (asks.Op op)
           → (s1 : Ideal) → ideal.operated p at_operation s (Some (asks.Op op)) ≡ Some s1
           → IsState fs store (x ∷ xs) p (λ q. expected setup fs store (get q ahead) (x ∷ xs) q) (queues (x ∷ xs)) (stored (commits (x ∷ xs)))
-              (running_at (stands setup fs store p xs) (own ∷ on fs store xs p (stands setup fs store p xs) (frees_to i (stands setup fs store p xs))) (open_since (commits (x ∷ xs)) (operated fs store xs p x.seq x.holds i (stands setup fs store p xs)).transaction)) x.seq 1 s1
+          (running_at (stands setup fs store p xs) (own ∷ on fs store xs p (stands setup fs store p xs) (frees_to i (stands setup fs store p xs))) (open_since (commits (x ∷ xs)) (operated fs store xs p x.seq x.holds i (stands setup fs store p xs)).transaction)) x.seq 1 s1
           → Went setup fs store x xs m is_seq under fit ahead (until (get p ahead) i 1 (versions_at x.seq store.versions)) p s
       operation_goes valid is_operated own own_is op asked s1 does is =
           let st : Point = stands setup fs store p xs in

@@ -34,7 +34,7 @@ module _ (setup : Setup) (fs : List Function) (store : Store) where
     apart : IsApart q body → finish_of q body ≡ None → next ≡ stands q xs → Does seq body xs q next
     began : body ≡ b.Init q → MayBegin q (stands q xs) xs → next ≡ initiated setup fs xs seq (call_of q xs) → Does seq body xs q next
     operates : (i : ℕ) → step_of body ≡ Some (q, i) → finish_of q body ≡ None → Reaches fs store xs q (stands q xs) i → next ≡ operated fs store xs q seq body i (stands q xs) → Does seq body xs q next
-    ends : (i : ℕ) (outcome : Outcome) → body ≡ b.Finish q i outcome → Asks fs store xs q (stands q xs) i (k.Done outcome) → next ≡ finished seq outcome (stands q xs) → Does seq body xs q next
+    ends : (i : ℕ) (outcome : Outcome) → body ≡ b.Finish q i outcome → Asks fs store xs q (stands q xs) i (k.Done outcome) → next ≡ finished fs store xs q seq outcome i (stands q xs) → Does seq body xs q next
 
   no_step : (q : List ℕ) (s : List ℕ × ℕ) → None ≡ Some s → bytes_eq q s.0 ≡ false
   no_step q s e = cc
@@ -75,7 +75,7 @@ module _ (setup : Setup) (fs : List Function) (store : Store) where
   does_body seq tags (b.TxnCommit p i begin names writes) xs q fits = does_operate seq (b.TxnCommit p i begin names writes) xs q p i refl refl fits.asks.reaches
   does_body seq tags (b.Finish p i outcome) xs q fits = at (bytes_eq q p) refl
     where
-      at : (t : Bool) → bytes_eq q p ≡ t → Does seq (b.Finish p i outcome) xs q (cond t (finished seq outcome (stands q xs)) (stands q xs))
+      at : (t : Bool) → bytes_eq q p ≡ t → Does seq (b.Finish p i outcome) xs q (cond t (finished fs store xs q seq outcome i (stands q xs)) (stands q xs))
       at true e = let same : p ≡ q = sym (same_key q p e) in ends i outcome (ap (λ p. b.Finish p i outcome) same) (subst (λ p. Asks fs store xs p (stands p xs) i (k.Done outcome)) same fits) refl
       at false e = apart (other_step q p i e) (ap (λ t. cond t (Some outcome) None) e) refl
   does_body seq tags (b.SwitchBegin target) xs q fits = apart (no_step q) refl refl

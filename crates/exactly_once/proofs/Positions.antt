@@ -164,7 +164,7 @@ module _ (store : Store) (key : List ℕ) where
       ap (option_map (λ (w : Write). w.value))
       (skip_last c k (if_key key x.seq store.named (logged_write x.holds)) (version_writes key store.versions) (logged_writes key store.named xs) (initial_writes key store.initial)
       (λ w e. let stands : StandsAt x.seq w = logged_stands key x.seq store.named (logged_write x.holds) w e in
-          ap (λ n. is_below n w.second c k) stands.first_is ∙ ap (λ n. is_below x.seq n c k) stands.second_is ∙ above))
+      ap (λ n. is_below n w.second c k) stands.first_is ∙ ap (λ n. is_below x.seq n c k) stands.second_is ∙ above))
 
   -- the first live record, and what is behind it
   module _ (x : Live Body) (xs : List (Live Body)) (m : ℕ) (is_seq : x.seq ≡ suc m) (under : Under m xs) where
@@ -202,7 +202,7 @@ module _ (store : Store) (key : List ℕ) where
         (λ v h same. below_over v.cursor v.k x.seq n c lt h.1 (λ e. h.0 (eq-eqb x.seq v.cursor (sym e)))) store.versions
         (each_both (λ (v : Version). eqb x.seq v.cursor ≡ true → v.k ≤ n) (λ (v : Version). v.cursor < c → v.cursor ≤ x.seq) store.versions versions placed))
         (λ w e. let stands : StandsAt x.seq w = logged_stands key x.seq store.named (logged_write x.holds) w e in
-            below_over w.first w.second x.seq n c lt (λ h. omega (arith, stands.first_is)) (λ h. omega (arith, stands.second_is)))
+        below_over w.first w.second x.seq n c lt (λ h. omega (arith, stands.first_is)) (λ h. omega (arith, stands.second_is)))
         (λ w below zero_is. below_over w.first w.second x.seq n c lt (λ h. omega arith) (λ h. absurd (omega (arith, below, h))))))
 
     is_top : (k : ℕ) (value : Value) → IsTop x.seq k value (writes_of key store (x ∷ xs)) → last key x.seq (suc k) store (x ∷ xs) ≡ Some value
@@ -218,7 +218,7 @@ module _ (store : Store) (key : List ℕ) where
         let others = initial_writes key store.initial in
         let stands : StandsAt x.seq w = logged_stands key x.seq store.named (logged_write x.holds) w is in
         let t : Tail (w ∷ (ls ++ others)) (vs ++ with (if_key key x.seq store.named (logged_write x.holds)) ls ++ others) =
-            subst (λ (o : Option Write). Tail (w ∷ (ls ++ others)) (vs ++ with o ls ++ others)) (sym is) (tail_append others (w ∷ ls) (vs ++ w ∷ ls) (tail_prepend vs (w ∷ ls) (w ∷ ls) here)) in
+        subst (λ (o : Option Write). Tail (w ∷ (ls ++ others)) (vs ++ with o ls ++ others)) (sym is) (tail_append others (w ∷ ls) (vs ++ w ∷ ls) (tail_prepend vs (w ∷ ls) (w ∷ ls) here)) in
         is_top 0 w.value
         (top_of x.seq 0 w.value w (ls ++ others) (writes_of key store (x ∷ xs)) stands.first_is stands.second_is refl t
         (each_here (Agrees x.seq 0 w.value)
@@ -242,7 +242,7 @@ module _ (store : Store) (key : List ℕ) where
         (each_weaker (λ (v : Version). eqb x.seq v.cursor ≡ true → v.k ≡ k → v.value ≡ value) (λ (v : Version). bytes_eq key v.key ≡ true → Agrees x.seq k value (write_at v.cursor v.k v.value))
         (λ v h same. record { agrees = λ first second. h (eq-eqb x.seq v.cursor (sym first)) second }) store.versions once)
         (λ u e. let stands : StandsAt x.seq u = logged_stands key x.seq store.named (logged_write x.holds) u e in
-            record { agrees = λ first second. absurd (let no_way : ⊥ = omega (arith, lt, second, stands.second_is) in no_way) })
+        record { agrees = λ first second. absurd (let no_way : ⊥ = omega (arith, lt, second, stands.second_is) in no_way) })
         (λ u below zero_is. record { agrees = λ first second. absurd (let no_way : ⊥ = omega (arith, below, first) in no_way) })))
 
 -- before the first record

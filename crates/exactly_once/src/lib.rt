@@ -19,5 +19,4 @@ ghost use Rattle.exactly_once.specs.Runs.{SoundRuns};
 /// The failure-free execution of a sound log's turns is defined, and comes to what the log and the store say.
 pub fn sound_runs()
     ensures { SoundRuns }
-{
-}
+{}
