@@ -134,13 +134,19 @@ initiated setup fs past seq call = record {
   result = None;
 }
 
-abbrev pub finished : ℕ → Outcome → Point → Point
-finished seq outcome p = record p { place = suc p.place; cursor = seq; result = Some outcome }
+-- the end, with its index: the free operations before it are done, and there is no further operation
+abbrev pub finished : List Function → Store → List (Live Body) → List ℕ → ℕ → Outcome → ℕ → Point → Point
+finished fs store past path seq outcome index p = record p {
+  place = suc p.place;
+  cursor = seq;
+  result = Some outcome;
+  answers = more fs store past path p (index - suc (length p.answers));
+}
 
 -- one step record of the path
 abbrev pub stepped : Setup → List Function → Store → List (Live Body) → List ℕ → ℕ → Body → ℕ → Point → Point
 stepped setup fs store past path seq (b.Init p) index d = initiated setup fs past seq (call_of path past)
-stepped setup fs store past path seq (b.Finish p i outcome) index d = finished seq outcome d
+stepped setup fs store past path seq (b.Finish p i outcome) index d = finished fs store past path seq outcome index d
 stepped setup fs store past path seq body index d = operated fs store past path seq body index d
 
 abbrev pub advanced : Setup → List Function → Store → List (Live Body) → List ℕ → Live Body → Option (List ℕ × ℕ) → Point → Point
