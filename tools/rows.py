@@ -11,7 +11,6 @@ import re
 TOP = pathlib.Path(__file__).resolve().parent.parent
 CRATE = TOP / "crates" / "model_rows"
 TOKEN = re.compile(r'\s*("(?:[^"\\]|\\.)*"|\d+(?:\.\d+)+|\d+|\w+|==|!=|<=|>=|\+\+|.)')
-WIDTH = 120
 
 # ---- terms
 
@@ -36,6 +35,13 @@ def integer(n):
 
 def codes(text):
     return f'codes "{text}"'
+
+def listed(terms):
+    """A list, a term a line, as the body of a definition."""
+    return "\n" + "".join(f"    {term} ∷\n" for term in terms) + "    []" if terms else " []"
+
+def definition(name, kind, body):
+    return f"\nabbrev pub {name} : {kind}\n{name} ={body}\n"
 
 # ---- tokens of a line
 
@@ -188,11 +194,18 @@ def statement(text):
         return call("stmt.Commit", variable, line.many(lambda: sides(line, e)))
     return call("stmt.Let", variable, e())
 
-def function(head, body):
-    line = Line(head)
-    line.want("function")
-    name, params = line.call(line.name)
-    return name, record(name=codes(name), params=params, lines=items(statement(text) for text in body))
+class Function:
+    def __init__(self, head, body):
+        line = Line(head)
+        line.want("function")
+        self.name, self.params = line.call(line.name)
+        self.lines = [statement(text) for text in body]
+
+    def text(self):
+        """Its lines and the function, as two definitions."""
+        lines = definition(f"{self.name}_lines", "List Stmt", listed(self.lines))
+        whole = record(name=codes(self.name), params=self.params, lines=f"{self.name}_lines")
+        return lines + definition(f"{self.name}_function", "Function", f" {whole}")
 
 # ---- events
 
@@ -373,9 +386,9 @@ class Example:
             self.objects.append(line.given(""))
         while rows:
             end = next((i for i, row in enumerate(rows) if row.startswith("function") and i > 0), len(rows))
-            self.functions.append(function(rows[0], rows[1:end - 1]))
+            self.functions.append(Function(rows[0], rows[1:end - 1]))
             rows = rows[end:]
-        self.names = [name for name, term in self.functions]
+        self.names = [f.name for f in self.functions]
 
     def output(self, rows, words):
         cut = rows.index("report")
@@ -386,10 +399,6 @@ class Example:
 
 # ---- files
 
-DECLARED = {
-    "Plan": "boki_types.specs.declared.plan.Plan", "Function": "boki_types.specs.declared.program.Function",
-    "Report": "boki_types.specs.declared.turn.Report", "Answer": "boki_types.specs.declared.line.Line",
-}
 ALIASES = {
     "event": "boki_types.specs.declared.event.Event", "line": "boki_types.specs.declared.line.Line",
     "step": "boki_types.specs.declared.line.StepLine", "miss": "boki_types.specs.declared.line.Miss",
@@ -403,10 +412,11 @@ NAMES = [
     ("lb_base.specs.declared.value.Mode.TheVariants", ["R", "W", "T"]),
     ("lb_base.specs.declared.value.Outcome.TheVariants", ["Good", "Trap"]),
     ("boki_types.specs.declared.plan.Plan", ["Plan"]),
-    ("boki_types.specs.declared.plan.Item.TheVariants", ["One"]),
+    ("boki_types.specs.declared.event.Event", ["Event"]),
     ("boki_types.specs.declared.line.Line", ["Line"]),
     ("boki_types.specs.declared.turn.Report", ["Report"]),
     ("boki_types.specs.declared.program.Function", ["Function"]),
+    ("boki_types.specs.declared.program.Stmt", ["Stmt"]),
     ("model_rows.specs.Shown", ["Shows", "sent", "seqnum", "tag", "one_by_one"]),
 ]
 
@@ -424,43 +434,37 @@ def uses(body, library=()):
             out.append(f"use Rattle.{module}.TheVariants as {alias}")
     return "\n".join(out)
 
-def folded(name, terms):
-    """A list as a definition's body, a term a line."""
-    return f"{name} =\n" + "".join(f"    {term} ∷\n" for term in terms) + "    []\n" if terms else f"{name} = []\n"
-
 def write(path, text):
     path.parent.mkdir(parents=True, exist_ok=True)
     path.write_text(text)
 
 def functions_file(library):
-    body = "".join(f"\nabbrev pub {name} : Function\n{name} = {term}\n" for name, term in library.items())
-    write(CRATE / "specs" / "Functions.antt", "-- The functions that the examples share. tools/rows.py makes this file.\n" + uses(body) + "\n" + body)
+    body = "".join(library[name] for name in library)
+    write(CRATE / "specs" / "Functions.antt", "-- The functions that the examples share; tools/rows.py makes this file.\n" + uses(body) + "\n" + body)
+
+def plan_term(example):
+    """The term of a plan, a field a line."""
+    fields = dict(
+        setup=example.setup, objects=items(example.objects),
+        program=record(functions=items(f"{name}_function" for name in example.names)), items="one_by_one events")
+    return fielded(fields)
+
+def fielded(fields):
+    return " record {\n" + "".join(f"  {name} = {term};\n" for name, term in fields.items()) + "}"
 
 def spec_file(example, library):
-    functions = [next((key for key, shared in library.items() if shared == term), term) for name, term in example.functions]
-    body = f"""
-abbrev pub plan : Plan
-plan = record {{
-  setup = {example.setup};
-  objects = {items(example.objects)};
-  program = record {{ functions = {items(functions)} }};
-  items = one_by_one (
-    {(" ∷" + chr(10) + "    ").join(example.events + ["[]"])}
-  )
-}}
-
-abbrev pub lines : List Line
-{folded("lines", example.lines)}
-abbrev pub report : Report
-report = record {{
-  {("; " + chr(10) + "  ").join(f"{key} = {term}" for key, term in example.report.items())}
-}}
-
-abbrev pub {example.module}Run : Type 0
-{example.module}Run = Shows plan lines report
-"""
-    head = f"-- {example.shows}. tools/rows.py makes this file from examples/{example.name}.plan and .out.\n"
-    write(CRATE / "specs" / f"{example.module}.antt", head + uses(body, library) + "\n" + body)
+    run = f"{example.module}Run"
+    body = "".join([
+        *(f.text() for f in example.functions if library.get(f.name) != f.text()),
+        definition("events", "List Event", listed(example.events)),
+        definition("plan", "Plan", plan_term(example)),
+        definition("lines", "List Line", listed(example.lines)),
+        definition("report", "Report", fielded(example.report)),
+        definition(run, "Type 0", " Shows plan lines report"),
+    ])
+    shared = [f"{f.name}_function" for f in example.functions if library.get(f.name) == f.text()]
+    head = f"-- {example.shows}.\n-- tools/rows.py makes this file from examples/{example.name}.plan and .out.\n"
+    write(CRATE / "specs" / f"{example.module}.antt", head + uses(body, shared) + "\n" + body)
 
 def proof_file(example):
     write(CRATE / "proofs" / example.name / "Answers.antt", f"""-- It comes out by computation.
@@ -471,7 +475,7 @@ use Rattle.model_rows.proofs.{example.name}.Goals as goal
 
 pub returns : goal.returns
 unfolding hidden-the_row-Expr-0 hidden
-returns c = record {{ lines = refl; report = refl; ideal = refl }}
+returns c = record {{ valid = refl; lines = refl; report = refl; ideal = refl; decided = refl }}
 """)
 
 def code_file(examples):
@@ -484,18 +488,14 @@ def code_file(examples):
 
 def main():
     examples = [Example(source) for source in sorted((TOP / "examples").glob("*.plan"))]
-    counts = {}
-    for example in examples:
-        for name, term in example.functions:
-            counts.setdefault(term, []).append(name)
-    library = {f"{names[0]}_function": term for term, names in counts.items() if len(names) > 1}
+    texts = [f.text() for example in examples for f in example.functions]
+    library = {f.name: f.text() for example in examples for f in example.functions if texts.count(f.text()) > 1}
     functions_file(library)
     for example in examples:
         spec_file(example, library)
         proof_file(example)
     code_file(examples)
-    modules = [e.module for e in examples]
-    write(CRATE / "specs" / "Lib.antt", "".join(f"pub mod {m}\n" for m in ["Shown", "Functions"] + modules))
-    write(CRATE / "proofs" / "Lib.antt", "")
+    modules = ["Shown", "Functions"] + [example.module for example in examples]
+    write(CRATE / "specs" / "Lib.antt", "".join(f"pub mod {module}\n" for module in modules))
 
 main()

@@ -1,7 +1,9 @@
--- Conditions, for which dead records count nothing, and trimmed tags. tools/rows.py makes this file from examples/conditions.plan and .out.
+-- Conditions, for which dead records count nothing, and trimmed tags.
+-- tools/rows.py makes this file from examples/conditions.plan and .out.
 use Rattle.std.specs.Prelude.{List, [], ◌∷◌, None, codes}
 use Rattle.lb_base.specs.declared.value.Mode.TheVariants.{R}
 use Rattle.boki_types.specs.declared.plan.Plan.{Plan}
+use Rattle.boki_types.specs.declared.event.Event.{Event}
 use Rattle.boki_types.specs.declared.line.Line.{Line}
 use Rattle.boki_types.specs.declared.turn.Report.{Report}
 use Rattle.model_rows.specs.Shown.{Shows, sent, seqnum, tag, one_by_one}
@@ -9,12 +11,8 @@ use Rattle.model_rows.specs.Functions.{set_function, get_function, move_function
 use Rattle.boki_types.specs.declared.event.Event.TheVariants as event
 use Rattle.boki_types.specs.declared.line.Line.TheVariants as line
 
-abbrev pub plan : Plan
-plan = record {
-  setup = record { shards = 1; replicas = 1; engines = 1; mode = R; newer = None };
-  objects = [];
-  program = record { functions = set_function ∷ get_function ∷ move_function ∷ two_function ∷ parent_function ∷ put_function ∷ take_function ∷ bump_function ∷ add_function ∷ spin_function ∷ [] };
-  items = one_by_one (
+abbrev pub events : List Event
+events =
     event.Cond 1 0 (tag 7 ∷ []) (codes "a") ∷
     event.Cond 1 0 (tag 7 ∷ []) (codes "b") ∷
     event.Cond 1 2 (tag 7 ∷ []) (codes "c") ∷
@@ -35,7 +33,13 @@ plan = record {
     event.Sync ∷
     event.Settled 1 1 6 ∷
     []
-  )
+
+abbrev pub plan : Plan
+plan = record {
+  setup = record { shards = 1; replicas = 1; engines = 1; mode = R; newer = None };
+  objects = [];
+  program = record { functions = set_function ∷ get_function ∷ move_function ∷ two_function ∷ parent_function ∷ put_function ∷ take_function ∷ bump_function ∷ add_function ∷ spin_function ∷ [] };
+  items = one_by_one events;
 }
 
 abbrev pub lines : List Line
@@ -63,11 +67,11 @@ lines =
 
 abbrev pub report : Report
 report = record {
-  turns = []; 
-  results = []; 
-  objects = []; 
-  queues = []; 
-  stores = []
+  turns = [];
+  results = [];
+  objects = [];
+  queues = [];
+  stores = [];
 }
 
 abbrev pub ConditionsRun : Type 0

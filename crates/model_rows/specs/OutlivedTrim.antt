@@ -1,9 +1,11 @@
--- An attempt that outlives a trim stops; the floor, and what the store holds. tools/rows.py makes this file from examples/outlived_trim.plan and .out.
+-- An attempt that outlives a trim stops; the floor, and what the store holds.
+-- tools/rows.py makes this file from examples/outlived_trim.plan and .out.
 use Rattle.std.specs.Prelude.{pos, List, [], ◌∷◌, None, codes}
 use Rattle.lb_base.specs.declared.value.Value.TheVariants.{Int, Text}
 use Rattle.lb_base.specs.declared.value.Mode.TheVariants.{W}
 use Rattle.lb_base.specs.declared.value.Outcome.TheVariants.{Good}
 use Rattle.boki_types.specs.declared.plan.Plan.{Plan}
+use Rattle.boki_types.specs.declared.event.Event.{Event}
 use Rattle.boki_types.specs.declared.line.Line.{Line}
 use Rattle.boki_types.specs.declared.turn.Report.{Report}
 use Rattle.model_rows.specs.Shown.{Shows, sent, seqnum, one_by_one}
@@ -13,12 +15,8 @@ use Rattle.boki_types.specs.declared.line.Line.TheVariants as line
 use Rattle.boki_types.specs.declared.line.StepLine.TheVariants as step
 use Rattle.boki_types.specs.declared.turn.Turn.TheVariants as turn
 
-abbrev pub plan : Plan
-plan = record {
-  setup = record { shards = 1; replicas = 1; engines = 2; mode = W; newer = None };
-  objects = [];
-  program = record { functions = set_function ∷ get_function ∷ move_function ∷ two_function ∷ parent_function ∷ put_function ∷ take_function ∷ bump_function ∷ add_function ∷ spin_function ∷ [] };
-  items = one_by_one (
+abbrev pub events : List Event
+events =
     event.Submit 1 1 0 (Text (codes "x") ∷ Int (pos 4) ∷ []) ∷
     event.Sync ∷
     event.Start 1 (1 ∷ []) 1 ∷
@@ -43,7 +41,13 @@ plan = record {
     event.Step 3 ∷
     event.Step 1 ∷
     []
-  )
+
+abbrev pub plan : Plan
+plan = record {
+  setup = record { shards = 1; replicas = 1; engines = 2; mode = W; newer = None };
+  objects = [];
+  program = record { functions = set_function ∷ get_function ∷ move_function ∷ two_function ∷ parent_function ∷ put_function ∷ take_function ∷ bump_function ∷ add_function ∷ spin_function ∷ [] };
+  items = one_by_one events;
 }
 
 abbrev pub lines : List Line
@@ -75,11 +79,11 @@ lines =
 
 abbrev pub report : Report
 report = record {
-  turns = turn.Submit 1 0 (Text (codes "x") ∷ Int (pos 4) ∷ []) ∷ turn.Go (1 ∷ []) 1 ∷ turn.End (1 ∷ []) ∷ []; 
-  results = (1 ∷ [], Good (Int (pos 4))) ∷ []; 
-  objects = (codes "x", Int (pos 4)) ∷ []; 
-  queues = []; 
-  stores = []
+  turns = turn.Submit 1 0 (Text (codes "x") ∷ Int (pos 4) ∷ []) ∷ turn.Go (1 ∷ []) 1 ∷ turn.End (1 ∷ []) ∷ [];
+  results = (1 ∷ [], Good (Int (pos 4))) ∷ [];
+  objects = (codes "x", Int (pos 4)) ∷ [];
+  queues = [];
+  stores = [];
 }
 
 abbrev pub OutlivedTrimRun : Type 0

@@ -1,9 +1,11 @@
--- In mode R a read answers at its cursor, and not the newest write. tools/rows.py makes this file from examples/read_at_a_cursor.plan and .out.
+-- In mode R a read answers at its cursor, and not the newest write.
+-- tools/rows.py makes this file from examples/read_at_a_cursor.plan and .out.
 use Rattle.std.specs.Prelude.{pos, List, [], ◌∷◌, None, codes}
 use Rattle.lb_base.specs.declared.value.Value.TheVariants.{Int, Text}
 use Rattle.lb_base.specs.declared.value.Mode.TheVariants.{R}
 use Rattle.lb_base.specs.declared.value.Outcome.TheVariants.{Good}
 use Rattle.boki_types.specs.declared.plan.Plan.{Plan}
+use Rattle.boki_types.specs.declared.event.Event.{Event}
 use Rattle.boki_types.specs.declared.line.Line.{Line}
 use Rattle.boki_types.specs.declared.turn.Report.{Report}
 use Rattle.model_rows.specs.Shown.{Shows, sent, seqnum, one_by_one}
@@ -13,12 +15,8 @@ use Rattle.boki_types.specs.declared.line.Line.TheVariants as line
 use Rattle.boki_types.specs.declared.line.StepLine.TheVariants as step
 use Rattle.boki_types.specs.declared.turn.Turn.TheVariants as turn
 
-abbrev pub plan : Plan
-plan = record {
-  setup = record { shards = 1; replicas = 1; engines = 1; mode = R; newer = None };
-  objects = (codes "x", Int (pos 5)) ∷ [];
-  program = record { functions = set_function ∷ get_function ∷ move_function ∷ two_function ∷ parent_function ∷ put_function ∷ take_function ∷ bump_function ∷ add_function ∷ spin_function ∷ [] };
-  items = one_by_one (
+abbrev pub events : List Event
+events =
     event.Submit 1 1 1 (Text (codes "x") ∷ []) ∷
     event.Submit 1 2 0 (Text (codes "x") ∷ Int (pos 9) ∷ []) ∷
     event.Sync ∷
@@ -40,7 +38,13 @@ plan = record {
     event.Step 1 ∷
     event.Step 2 ∷
     []
-  )
+
+abbrev pub plan : Plan
+plan = record {
+  setup = record { shards = 1; replicas = 1; engines = 1; mode = R; newer = None };
+  objects = (codes "x", Int (pos 5)) ∷ [];
+  program = record { functions = set_function ∷ get_function ∷ move_function ∷ two_function ∷ parent_function ∷ put_function ∷ take_function ∷ bump_function ∷ add_function ∷ spin_function ∷ [] };
+  items = one_by_one events;
 }
 
 abbrev pub lines : List Line
@@ -69,11 +73,11 @@ lines =
 
 abbrev pub report : Report
 report = record {
-  turns = turn.Submit 1 1 (Text (codes "x") ∷ []) ∷ turn.Submit 2 0 (Text (codes "x") ∷ Int (pos 9) ∷ []) ∷ turn.Go (1 ∷ []) 1 ∷ turn.Go (2 ∷ []) 0 ∷ turn.Go (2 ∷ []) 1 ∷ turn.End (1 ∷ []) ∷ turn.End (2 ∷ []) ∷ []; 
-  results = (1 ∷ [], Good (Int (pos 5))) ∷ (2 ∷ [], Good (Int (pos 9))) ∷ []; 
-  objects = (codes "x", Int (pos 9)) ∷ []; 
-  queues = []; 
-  stores = []
+  turns = turn.Submit 1 1 (Text (codes "x") ∷ []) ∷ turn.Submit 2 0 (Text (codes "x") ∷ Int (pos 9) ∷ []) ∷ turn.Go (1 ∷ []) 1 ∷ turn.Go (2 ∷ []) 0 ∷ turn.Go (2 ∷ []) 1 ∷ turn.End (1 ∷ []) ∷ turn.End (2 ∷ []) ∷ [];
+  results = (1 ∷ [], Good (Int (pos 5))) ∷ (2 ∷ [], Good (Int (pos 9))) ∷ [];
+  objects = (codes "x", Int (pos 9)) ∷ [];
+  queues = [];
+  stores = [];
 }
 
 abbrev pub ReadAtACursorRun : Type 0

@@ -1,11 +1,15 @@
--- A read of two objects at one record, which fences both. tools/rows.py makes this file from examples/read_group.plan and .out.
+-- A read of two objects at one record, which fences both.
+-- tools/rows.py makes this file from examples/read_group.plan and .out.
 use Rattle.std.specs.Prelude.{pos, List, [], ◌∷◌, None, codes}
 use Rattle.lb_base.specs.declared.value.Value.TheVariants.{Int, Text}
 use Rattle.lb_base.specs.declared.value.Mode.TheVariants.{W}
 use Rattle.lb_base.specs.declared.value.Outcome.TheVariants.{Good}
 use Rattle.boki_types.specs.declared.plan.Plan.{Plan}
+use Rattle.boki_types.specs.declared.event.Event.{Event}
 use Rattle.boki_types.specs.declared.line.Line.{Line}
 use Rattle.boki_types.specs.declared.turn.Report.{Report}
+use Rattle.boki_types.specs.declared.program.Function.{Function}
+use Rattle.boki_types.specs.declared.program.Stmt.{Stmt}
 use Rattle.model_rows.specs.Shown.{Shows, sent, seqnum, one_by_one}
 use Rattle.model_rows.specs.Functions.{set_function, get_function, move_function, two_function, parent_function, put_function, take_function, bump_function, add_function, spin_function}
 use Rattle.boki_types.specs.declared.event.Event.TheVariants as event
@@ -16,12 +20,17 @@ use Rattle.boki_types.specs.declared.expr.Expr.TheVariants as expr
 use Rattle.boki_types.specs.declared.expr.BinOp.TheVariants as op
 use Rattle.boki_types.specs.declared.turn.Turn.TheVariants as turn
 
-abbrev pub plan : Plan
-plan = record {
-  setup = record { shards = 1; replicas = 1; engines = 1; mode = W; newer = None };
-  objects = (codes "a", Int (pos 1)) ∷ (codes "b", Int (pos 2)) ∷ [];
-  program = record { functions = set_function ∷ get_function ∷ move_function ∷ two_function ∷ parent_function ∷ put_function ∷ take_function ∷ bump_function ∷ add_function ∷ spin_function ∷ record { name = codes "both"; params = codes "a" ∷ codes "b" ∷ []; lines = stmt.ReadAll ((codes "x", expr.Var (codes "a")) ∷ (codes "y", expr.Var (codes "b")) ∷ []) ∷ stmt.Return (expr.Two op.Add (expr.Var (codes "x")) (expr.Var (codes "y"))) ∷ [] } ∷ [] };
-  items = one_by_one (
+abbrev pub both_lines : List Stmt
+both_lines =
+    stmt.ReadAll ((codes "x", expr.Var (codes "a")) ∷ (codes "y", expr.Var (codes "b")) ∷ []) ∷
+    stmt.Return (expr.Two op.Add (expr.Var (codes "x")) (expr.Var (codes "y"))) ∷
+    []
+
+abbrev pub both_function : Function
+both_function = record { name = codes "both"; params = codes "a" ∷ codes "b" ∷ []; lines = both_lines }
+
+abbrev pub events : List Event
+events =
     event.Submit 1 1 10 (Text (codes "a") ∷ Text (codes "b") ∷ []) ∷
     event.Submit 1 2 0 (Text (codes "b") ∷ Int (pos 9) ∷ []) ∷
     event.Sync ∷
@@ -43,7 +52,13 @@ plan = record {
     event.Step 2 ∷
     event.Step 1 ∷
     []
-  )
+
+abbrev pub plan : Plan
+plan = record {
+  setup = record { shards = 1; replicas = 1; engines = 1; mode = W; newer = None };
+  objects = (codes "a", Int (pos 1)) ∷ (codes "b", Int (pos 2)) ∷ [];
+  program = record { functions = set_function ∷ get_function ∷ move_function ∷ two_function ∷ parent_function ∷ put_function ∷ take_function ∷ bump_function ∷ add_function ∷ spin_function ∷ both_function ∷ [] };
+  items = one_by_one events;
 }
 
 abbrev pub lines : List Line
@@ -72,11 +87,11 @@ lines =
 
 abbrev pub report : Report
 report = record {
-  turns = turn.Submit 1 10 (Text (codes "a") ∷ Text (codes "b") ∷ []) ∷ turn.Submit 2 0 (Text (codes "b") ∷ Int (pos 9) ∷ []) ∷ turn.Go (1 ∷ []) 0 ∷ turn.Go (2 ∷ []) 0 ∷ turn.Go (1 ∷ []) 1 ∷ turn.Go (2 ∷ []) 1 ∷ turn.End (1 ∷ []) ∷ []; 
-  results = (1 ∷ [], Good (Int (pos 3))) ∷ []; 
-  objects = (codes "a", Int (pos 1)) ∷ (codes "b", Int (pos 9)) ∷ []; 
-  queues = []; 
-  stores = []
+  turns = turn.Submit 1 10 (Text (codes "a") ∷ Text (codes "b") ∷ []) ∷ turn.Submit 2 0 (Text (codes "b") ∷ Int (pos 9) ∷ []) ∷ turn.Go (1 ∷ []) 0 ∷ turn.Go (2 ∷ []) 0 ∷ turn.Go (1 ∷ []) 1 ∷ turn.Go (2 ∷ []) 1 ∷ turn.End (1 ∷ []) ∷ [];
+  results = (1 ∷ [], Good (Int (pos 3))) ∷ [];
+  objects = (codes "a", Int (pos 1)) ∷ (codes "b", Int (pos 9)) ∷ [];
+  queues = [];
+  stores = [];
 }
 
 abbrev pub ReadGroupRun : Type 0

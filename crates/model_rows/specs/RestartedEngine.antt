@@ -1,9 +1,11 @@
--- An engine restarts: its auxiliary data and its attempts are gone, and a new attempt goes on. tools/rows.py makes this file from examples/restarted_engine.plan and .out.
+-- An engine restarts: its auxiliary data and its attempts are gone, and a new attempt goes on.
+-- tools/rows.py makes this file from examples/restarted_engine.plan and .out.
 use Rattle.std.specs.Prelude.{pos, List, [], ◌∷◌, None, codes}
 use Rattle.lb_base.specs.declared.value.Value.TheVariants.{Int, Text}
 use Rattle.lb_base.specs.declared.value.Mode.TheVariants.{R}
 use Rattle.lb_base.specs.declared.value.Outcome.TheVariants.{Good}
 use Rattle.boki_types.specs.declared.plan.Plan.{Plan}
+use Rattle.boki_types.specs.declared.event.Event.{Event}
 use Rattle.boki_types.specs.declared.line.Line.{Line}
 use Rattle.boki_types.specs.declared.turn.Report.{Report}
 use Rattle.model_rows.specs.Shown.{Shows, sent, seqnum, one_by_one}
@@ -14,12 +16,8 @@ use Rattle.boki_types.specs.declared.line.StepLine.TheVariants as step
 use Rattle.boki_types.specs.declared.line.Miss.TheVariants as miss
 use Rattle.boki_types.specs.declared.turn.Turn.TheVariants as turn
 
-abbrev pub plan : Plan
-plan = record {
-  setup = record { shards = 1; replicas = 1; engines = 1; mode = R; newer = None };
-  objects = [];
-  program = record { functions = set_function ∷ get_function ∷ move_function ∷ two_function ∷ parent_function ∷ put_function ∷ take_function ∷ bump_function ∷ add_function ∷ spin_function ∷ [] };
-  items = one_by_one (
+abbrev pub events : List Event
+events =
     event.Submit 1 1 0 (Text (codes "x") ∷ Int (pos 4) ∷ []) ∷
     event.Sync ∷
     event.Start 1 (1 ∷ []) 1 ∷
@@ -44,7 +42,13 @@ plan = record {
     event.Sync ∷
     event.Step 2 ∷
     []
-  )
+
+abbrev pub plan : Plan
+plan = record {
+  setup = record { shards = 1; replicas = 1; engines = 1; mode = R; newer = None };
+  objects = [];
+  program = record { functions = set_function ∷ get_function ∷ move_function ∷ two_function ∷ parent_function ∷ put_function ∷ take_function ∷ bump_function ∷ add_function ∷ spin_function ∷ [] };
+  items = one_by_one events;
 }
 
 abbrev pub lines : List Line
@@ -76,11 +80,11 @@ lines =
 
 abbrev pub report : Report
 report = record {
-  turns = turn.Submit 1 0 (Text (codes "x") ∷ Int (pos 4) ∷ []) ∷ turn.Go (1 ∷ []) 0 ∷ turn.Go (1 ∷ []) 1 ∷ turn.End (1 ∷ []) ∷ []; 
-  results = (1 ∷ [], Good (Int (pos 4))) ∷ []; 
-  objects = (codes "x", Int (pos 4)) ∷ []; 
-  queues = []; 
-  stores = []
+  turns = turn.Submit 1 0 (Text (codes "x") ∷ Int (pos 4) ∷ []) ∷ turn.Go (1 ∷ []) 0 ∷ turn.Go (1 ∷ []) 1 ∷ turn.End (1 ∷ []) ∷ [];
+  results = (1 ∷ [], Good (Int (pos 4))) ∷ [];
+  objects = (codes "x", Int (pos 4)) ∷ [];
+  queues = [];
+  stores = [];
 }
 
 abbrev pub RestartedEngineRun : Type 0

@@ -1,9 +1,11 @@
--- A switch from mode R to W waits for an invocation that began before it; between them the mode is T. tools/rows.py makes this file from examples/switch.plan and .out.
+-- A switch from mode R to W waits for an invocation that began before it; between them the mode is T.
+-- tools/rows.py makes this file from examples/switch.plan and .out.
 use Rattle.std.specs.Prelude.{pos, List, [], ◌∷◌, None, codes}
 use Rattle.lb_base.specs.declared.value.Value.TheVariants.{Int, Text, Nothing}
 use Rattle.lb_base.specs.declared.value.Mode.TheVariants.{R, W, T}
 use Rattle.lb_base.specs.declared.value.Outcome.TheVariants.{Good}
 use Rattle.boki_types.specs.declared.plan.Plan.{Plan}
+use Rattle.boki_types.specs.declared.event.Event.{Event}
 use Rattle.boki_types.specs.declared.line.Line.{Line}
 use Rattle.boki_types.specs.declared.turn.Report.{Report}
 use Rattle.model_rows.specs.Shown.{Shows, sent, seqnum, one_by_one}
@@ -13,12 +15,8 @@ use Rattle.boki_types.specs.declared.line.Line.TheVariants as line
 use Rattle.boki_types.specs.declared.line.StepLine.TheVariants as step
 use Rattle.boki_types.specs.declared.turn.Turn.TheVariants as turn
 
-abbrev pub plan : Plan
-plan = record {
-  setup = record { shards = 1; replicas = 1; engines = 1; mode = R; newer = None };
-  objects = [];
-  program = record { functions = set_function ∷ get_function ∷ move_function ∷ two_function ∷ parent_function ∷ put_function ∷ take_function ∷ bump_function ∷ add_function ∷ spin_function ∷ [] };
-  items = one_by_one (
+abbrev pub events : List Event
+events =
     event.Submit 1 1 1 (Text (codes "x") ∷ []) ∷
     event.Sync ∷
     event.Start 1 (1 ∷ []) 1 ∷
@@ -51,7 +49,13 @@ plan = record {
     event.Sync ∷
     event.Step 3 ∷
     []
-  )
+
+abbrev pub plan : Plan
+plan = record {
+  setup = record { shards = 1; replicas = 1; engines = 1; mode = R; newer = None };
+  objects = [];
+  program = record { functions = set_function ∷ get_function ∷ move_function ∷ two_function ∷ parent_function ∷ put_function ∷ take_function ∷ bump_function ∷ add_function ∷ spin_function ∷ [] };
+  items = one_by_one events;
 }
 
 abbrev pub lines : List Line
@@ -91,11 +95,11 @@ lines =
 
 abbrev pub report : Report
 report = record {
-  turns = turn.Submit 1 1 (Text (codes "x") ∷ []) ∷ turn.Go (1 ∷ []) 1 ∷ turn.Submit 2 0 (Text (codes "x") ∷ Int (pos 4) ∷ []) ∷ turn.Go (2 ∷ []) 0 ∷ turn.End (1 ∷ []) ∷ turn.Go (2 ∷ []) 1 ∷ turn.Submit 3 1 (Text (codes "x") ∷ []) ∷ turn.Go (3 ∷ []) 0 ∷ []; 
-  results = (1 ∷ [], Good Nothing) ∷ []; 
-  objects = (codes "x", Int (pos 4)) ∷ []; 
-  queues = []; 
-  stores = []
+  turns = turn.Submit 1 1 (Text (codes "x") ∷ []) ∷ turn.Go (1 ∷ []) 1 ∷ turn.Submit 2 0 (Text (codes "x") ∷ Int (pos 4) ∷ []) ∷ turn.Go (2 ∷ []) 0 ∷ turn.End (1 ∷ []) ∷ turn.Go (2 ∷ []) 1 ∷ turn.Submit 3 1 (Text (codes "x") ∷ []) ∷ turn.Go (3 ∷ []) 0 ∷ [];
+  results = (1 ∷ [], Good Nothing) ∷ [];
+  objects = (codes "x", Int (pos 4)) ∷ [];
+  queues = [];
+  stores = [];
 }
 
 abbrev pub SwitchRun : Type 0

@@ -1,7 +1,9 @@
--- Replicas that lag: a cut orders what each replica has, and the shards in ascending number. tools/rows.py makes this file from examples/uneven_replicas.plan and .out.
+-- Replicas that lag: a cut orders what each replica has, and the shards in ascending number.
+-- tools/rows.py makes this file from examples/uneven_replicas.plan and .out.
 use Rattle.std.specs.Prelude.{List, [], ◌∷◌, None, codes}
 use Rattle.lb_base.specs.declared.value.Mode.TheVariants.{R}
 use Rattle.boki_types.specs.declared.plan.Plan.{Plan}
+use Rattle.boki_types.specs.declared.event.Event.{Event}
 use Rattle.boki_types.specs.declared.line.Line.{Line}
 use Rattle.boki_types.specs.declared.turn.Report.{Report}
 use Rattle.model_rows.specs.Shown.{Shows, sent, seqnum, tag, one_by_one}
@@ -9,12 +11,8 @@ use Rattle.model_rows.specs.Functions.{set_function, get_function, move_function
 use Rattle.boki_types.specs.declared.event.Event.TheVariants as event
 use Rattle.boki_types.specs.declared.line.Line.TheVariants as line
 
-abbrev pub plan : Plan
-plan = record {
-  setup = record { shards = 2; replicas = 2; engines = 2; mode = R; newer = None };
-  objects = [];
-  program = record { functions = set_function ∷ get_function ∷ move_function ∷ two_function ∷ parent_function ∷ put_function ∷ take_function ∷ bump_function ∷ add_function ∷ spin_function ∷ [] };
-  items = one_by_one (
+abbrev pub events : List Event
+events =
     event.Append 1 (tag 7 ∷ []) (codes "a") ∷
     event.Append 2 (tag 7 ∷ []) (codes "b") ∷
     event.Append 1 (tag 7 ∷ []) (codes "c") ∷
@@ -35,7 +33,13 @@ plan = record {
     event.Settled 1 1 2 ∷
     event.Settled 2 1 2 ∷
     []
-  )
+
+abbrev pub plan : Plan
+plan = record {
+  setup = record { shards = 2; replicas = 2; engines = 2; mode = R; newer = None };
+  objects = [];
+  program = record { functions = set_function ∷ get_function ∷ move_function ∷ two_function ∷ parent_function ∷ put_function ∷ take_function ∷ bump_function ∷ add_function ∷ spin_function ∷ [] };
+  items = one_by_one events;
 }
 
 abbrev pub lines : List Line
@@ -63,11 +67,11 @@ lines =
 
 abbrev pub report : Report
 report = record {
-  turns = []; 
-  results = []; 
-  objects = []; 
-  queues = []; 
-  stores = []
+  turns = [];
+  results = [];
+  objects = [];
+  queues = [];
+  stores = [];
 }
 
 abbrev pub UnevenReplicasRun : Type 0

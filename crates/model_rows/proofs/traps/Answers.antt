@@ -6,4 +6,4 @@ use Rattle.model_rows.proofs.traps.Goals as goal
 
 pub returns : goal.returns
 unfolding hidden-the_row-Expr-0 hidden
-returns c = record { lines = refl; report = refl; ideal = refl }
+returns c = record { valid = refl; lines = refl; report = refl; ideal = refl; decided = refl }
