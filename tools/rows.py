@@ -40,7 +40,7 @@ def quoted(token):
     """The bytes of a quoted text."""
     text = re.sub(r"\\(.)", lambda m: "\n" if m[1] == "n" else m[1], token[1:-1])
     plain = text.isascii() and text.isprintable() and not set(text) & set('"\\')
-    return codes(text) if plain else items(map(str, text.encode()))
+    return codes(text) if plain else f"({items(map(str, text.encode()))})"
 
 def listed(terms):
     """A list, a term a line, as the body of a definition."""
