@@ -95,8 +95,9 @@ def code_file(examples):
     body = "".join(f"\n/// {e.shows}.\npub fn {e.name}()\n    ensures {{ {e.module}Run }}\n{{}}\n" for e in examples)
     head = ("//! The definitions of the machine and of the failure-free execution, computed on worked examples: each function has\n"
             "//! as its contract that the plan of that name gives the lines and the report that stand beside it in `examples/`.\n"
-            "#![tactic(auto)]\n\n")
-    write(CRATE / "src" / "lib.rt", head + uses + body)
+            "#![tactic(auto)]\n\nmod by_hand;\n\n")
+    reexports = "\npub use by_hand::{illegal_turns, known_tags};\n"
+    write(CRATE / "src" / "lib.rt", head + uses + reexports + body)
 
 def main():
     examples = [Example(source) for source in sorted((TOP / "examples").glob("*.plan"))]
@@ -107,7 +108,7 @@ def main():
         spec_file(example, library)
         proof_file(example)
     code_file(examples)
-    modules = ["Shown", "Functions"] + [example.module for example in examples]
+    modules = ["Shown", "Functions", "ByHand"] + [example.module for example in examples]
     write(CRATE / "specs" / "Lib.antt", "".join(f"pub mod {module}\n" for module in modules))
 
 main()
