@@ -3,7 +3,7 @@ use Rattle.std.proofs.Common.{◌≡◌, ℕ, suc, ◌+◌, ◌<◌, ◌≤◌, 
 use Rattle.std.specs.Prelude.{◌&&◌}
 use Rattle.std.proofs.lemmas.List.{append-nil}
 use Rattle.std.proofs.lemmas.Bool.Decides.{nat_tests}
-use Rattle.lb_base.specs.Path.{is_request, is_ordinal, are_ordinals, request_path, child_path, path_of}
+use Rattle.lb_base.specs.Path.{is_request, is_ordinal, are_ordinals, request_path, path_of}
 
 -- the path with these ordinals behind it, one after another
 abbrev pub grown : List ℕ → List ℕ → Option (List ℕ)

@@ -1,4 +1,4 @@
-use Rattle.std.proofs.Common.{◌≡◌, ◌∷◌, drop}
+use Rattle.std.proofs.Common.{◌≡◌, drop}
 use Rattle.lb_base.specs.Path.{path_of}
 use Rattle.lb_base.proofs.PathLemmas.{grown}
 use Rattle.lb_base.proofs.path.Path.from_parts.Given as goal
