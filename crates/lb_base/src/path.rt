@@ -1,4 +1,4 @@
-ghost use Rattle.std.specs.Prelude.{◌≡◌, ◌==◌, ℕ, ◌≤◌, Some, refl, length};
+ghost use Rattle.std.specs.Prelude.{◌≡◌, ◌==◌, ℕ, ◌≤◌, Some, refl, length, ◌∷◌};
 ghost use Rattle.lb_base.specs.Path.{IsPath, request_path, child_path};
 ghost use Rattle.std.specs.Cmp;
 ghost use Rattle.std.specs.Cmp.Lexicographic.{pointwise, slice_cmp, nat_list_eq_equiv, nat_list_cmp_total, texts_ties, texts_po};
@@ -78,6 +78,13 @@ impl Path {
         ensures path { IsPath self.now }
     {
         &self.parts[..self.len as usize]
+    }
+
+    /// The request's number, and the ordinals behind it.
+    pub fn split(&self) -> (u32, &[u32])
+        ensures { self.now ≡ result.0 ∷ result.1.now }
+    {
+        (self.parts[0], &self.parts[1..self.len as usize])
     }
 
     /// How many numbers it has, from 1 to 4.
