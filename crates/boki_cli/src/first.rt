@@ -10,4 +10,4 @@ mod token;
 pub use machine::Machine;
 pub use printing::print_line;
 pub use report::report_lines;
-pub use text::{Plan, Unread, read_plan};
+pub use text::{Event, Plan, Unread, read_plan};

@@ -1,13 +1,13 @@
 //! The top call of the command `run`.
 
-ghost use Rattle.std.specs.Prelude.{◌≡◌, ◌≢◌, ◌≤◌, ◌<◌, true, false, map, length, string_bytes, IfSome, IsErrOf};
+ghost use Rattle.std.specs.Prelude.{◌≡◌, ◌≢◌, ◌≤◌, ◌<◌, [], Some, true, false, map, length, string_bytes, IfSome, IsErrOf};
 ghost use Rattle.lb_base.specs.Outside.{Rose};
 ghost use Rattle.boki_cli.specs.Due.{Meets, Wrote, Grows, is_run, refusal, text_limit, usage};
 
-use crate::first::{Machine, Plan, Unread, print_line, read_plan, report_lines};
+use crate::first::{Event, Machine, Plan, Unread, print_line, read_plan, report_lines};
 use crate::kind::Kind;
 use crate::status::Status;
-use lb_base::{PutFault, ReadAll, Sink, Source, read_all, write_line};
+use lb_base::{Memory, PutFault, ReadAll, Sink, Source, read_all, write_line};
 use std::alloc::Global;
 
 /// Whether the words are exactly `run`.
@@ -40,7 +40,7 @@ fn tell_usage<K: Sink>(sink: &mut K) -> Status
 /// Writes the line of a refusal.
 fn refuse<K: Sink>(alloc: Global, line: u64, kind: Kind, sink: &mut K) -> Status
     ensures meets { Meets result (refusal line kind) (K.held sink.old) (K.held sink.new) }
-    ensures other { (result ≢ Status.ReadFault) × (result ≢ Status.Usage) × (result ≢ Status.Done) }
+    ensures other { (result ≢ Status.ReadFault) × (result ≢ Status.Usage) }
     ensures write { result ≡ Status.WriteFault → Rose (K.faults sink.old) (K.faults sink.new) }
 {
     let Ok(text) = format!(in alloc; "refused {line} {kind}\n") else {
@@ -62,6 +62,18 @@ fn tell<K: Sink>(sink: &mut K, line: &String) -> Result<(), PutFault>
     write_line(sink, line.as_str().as_bytes())
 }
 
+/// Does an event of a plan, and gives its line.
+fn event_line(
+    alloc: Global,
+    plan: &Plan,
+    machine: &mut Machine,
+    n: u64,
+    event: &Event,
+) -> Result<String, Memory> {
+    let answer = machine.event(alloc, plan, event)?;
+    print_line(alloc, n, &answer)
+}
+
 /// Does the events of a plan and writes the line of each.
 fn run_events<K: Sink>(alloc: Global, plan: &Plan, machine: &mut Machine, sink: &mut K) -> Result<(), PutFault>
     ensures grows { Grows (K.held sink.old) (K.held sink.new) }
@@ -69,8 +81,7 @@ fn run_events<K: Sink>(alloc: Global, plan: &Plan, machine: &mut Machine, sink: 
     ensures later { K.faults sink.old ≤ K.faults sink.new }
 {
     'events: for (i, event) in plan.events.iter().enumerate() {
-        let answer = machine.event(alloc, plan, event)?;
-        let line = print_line(alloc, i as u64 + 1, &answer)?;
+        let line = event_line(alloc, plan, machine, i as u64 + 1, event)?;
         tell(sink, &line)?;
     }
     Ok(())
@@ -88,6 +99,17 @@ fn tell_lines<K: Sink>(lines: &[String], sink: &mut K) -> Result<(), PutFault>
     Ok(())
 }
 
+/// Runs a plan on a machine, and writes its lines and its report.
+fn run_machine<K: Sink>(alloc: Global, plan: &Plan, machine: &mut Machine, sink: &mut K) -> Result<(), PutFault>
+    ensures grows { Grows (K.held sink.old) (K.held sink.new) }
+    ensures fault { IsErrOf result PutFault.Fault → Rose (K.faults sink.old) (K.faults sink.new) }
+    ensures later { K.faults sink.old ≤ K.faults sink.new }
+{
+    run_events(alloc, plan, machine, sink)?;
+    let lines = report_lines(alloc, &plan.function, machine.log())?;
+    tell_lines(&lines, sink)
+}
+
 /// Runs a plan, and writes its lines and its report.
 fn run_plan<K: Sink>(alloc: Global, plan: &Plan, sink: &mut K) -> Result<(), PutFault>
     ensures grows { Grows (K.held sink.old) (K.held sink.new) }
@@ -95,9 +117,7 @@ fn run_plan<K: Sink>(alloc: Global, plan: &Plan, sink: &mut K) -> Result<(), Put
     ensures later { K.faults sink.old ≤ K.faults sink.new }
 {
     let mut machine = Machine::new(alloc);
-    run_events(alloc, plan, &mut machine, sink)?;
-    let lines = report_lines(alloc, &plan.function, machine.log())?;
-    tell_lines(&lines, sink)
+    run_machine(alloc, plan, &mut machine, sink)
 }
 
 /// Runs a text.
@@ -125,6 +145,8 @@ pub fn run_top<S: Source, K: Sink>(alloc: Global, words: &[String], source: &mut
     // The word `run`: never the usage line. What is written under each status.
     ensures run { is_run (map string_bytes words.now) ≡ true →
         (result ≢ Status.Usage) × Wrote result (K.held sink.old) (K.held sink.new) }
+    // Done comes only once the source was read to its end.
+    ensures done { result ≡ Status.Done → IfSome (S.left source.old) (λ _. S.left source.new ≡ Some []) }
     // A text past the limit is refused, but for a fault or want of memory.
     ensures long { is_run (map string_bytes words.now) ≡ true → IfSome (S.left source.old) (λ text.
         text_limit < length text → Meets result (refusal 0 Kind.NotBuilt) (K.held sink.old) (K.held sink.new)) }

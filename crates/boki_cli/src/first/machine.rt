@@ -184,7 +184,7 @@ impl Attempt {
     ) -> Result<StepLine, Memory> {
         let seq = self.next.saturating_add(1);
         let line = match record {
-            Record::Write(_, name) => StepLine::AdoptWrite(seq, name.copy()?),
+            Record::Write(_, name) => StepLine::AdoptWrite(seq, name.clone()?),
             _ => StepLine::AdoptInit(seq),
         };
         match &mut self.frame {
@@ -212,19 +212,19 @@ impl Attempt {
                 Ok(StepLine::SendFinish(sent, line))
             }
             Ask::Read(name, _) => {
-                let name = name.copy()?;
+                let name = name.clone()?;
                 let value = log.read(&name, self.next)?;
                 frame.answer(alloc, function, value.clone()?)?;
                 Ok(StepLine::Read(name, value))
             }
             Ask::Write(name, value) => {
-                let name = name.copy()?;
+                let name = name.clone()?;
                 if !self.stored {
                     log.store.push((self.next, value.clone()?))?;
                     self.stored = true;
                     return Ok(StepLine::Store(name, value.clone()?));
                 }
-                let sent = log.append(Record::Write(frame.index(), name.copy()?))?;
+                let sent = log.append(Record::Write(frame.index(), name.clone()?))?;
                 self.waiting = true;
                 Ok(StepLine::SendWrite(sent, name))
             }

@@ -1,9 +1,8 @@
 //! The report of a run.
 
 use crate::first::machine::{Log, Record};
-use crate::first::printing::{print_access, print_outcome, print_values};
 use crate::first::script::Function;
-use lb_base::{Memory, Value};
+use lb_base::{Memory, Quoted, Value};
 use std::alloc::Global;
 use std::collections::BTreeMap;
 
@@ -26,6 +25,18 @@ fn turn_len(record: &Record, next: Option<&Record>) -> u64 {
             _ => 1,
         },
     }
+}
+
+/// Values with `, ` between them.
+fn print_values(alloc: Global, values: &[Value]) -> Result<String, Memory> {
+    let mut text = String::new(alloc);
+    for value in values {
+        if !text.is_empty() {
+            text.push_str(", ")?;
+        }
+        text.push_str(value.to_string(alloc)?.as_str())?;
+    }
+    Ok(text)
 }
 
 /// The turn of a record, with the record that follows it.
@@ -68,8 +79,8 @@ fn push_objects(alloc: Global, lines: &mut Vec<String>, log: &Log) -> Result<(),
         }
     }
     for (name, value) in &objects {
-        let object = print_access(alloc, "object", name, value)?;
-        lines.push(format!(in alloc; "{object}\n")?)?;
+        let name = Quoted(name);
+        lines.push(format!(in alloc; "object {name} {value}\n")?)?;
     }
     Ok(())
 }
@@ -93,7 +104,6 @@ pub fn report_lines(
         lines.push(turn_line(alloc, name, request, record, next)?)?;
     }
     if let Some(Record::Finish(_, outcome)) = records.last() {
-        let outcome = print_outcome(alloc, outcome)?;
         lines.push(format!(in alloc; "result {request} {outcome}\n")?)?;
     }
     push_objects(alloc, &mut lines, log)?;
