@@ -1,5 +1,7 @@
 //! Worked plans through the top call. What is expected was worked out by hand from the rules of the texts.
 
+ghost use Rattle.std.specs.Prelude.{◌≤◌};
+
 use crate::kind::Kind;
 use crate::status::Status;
 use crate::top::run_top;

@@ -137,7 +137,15 @@ fn run_text<K: Sink>(alloc: Global, text: &[u8], sink: &mut K) -> Status
     }
 }
 
-/// Runs the plan that a source gives, where the words are exactly `run`.
+/// Runs the plan that a source gives, and writes the line of each event and the report to a sink.
+///
+/// The words stand without the program's name. They are looked at first, then the source is read whole, then its text
+/// is judged, then it is run. `Usage` comes exactly where the words aren't the one word `run` and the usage line was
+/// written; the source is left alone then. `Refused` comes with line 0 and `Kind::NotBuilt` where the text has more
+/// than 1,048,576 bytes or isn't a plan of the first form, and its line was written. `ReadFault` and `WriteFault` come
+/// only where that device failed in this call, and `Done` only once the source was read to its end. `Memory` comes where
+/// memory ran out, at any point. What the sink held before stays, and what was written stands behind it: under `Done`
+/// all that was due, under `WriteFault` and `Memory` a front of it, under `ReadFault` nothing.
 pub fn run_top<S: Source, K: Sink>(alloc: Global, words: &[String], source: &mut S, sink: &mut K) -> Status
     // Other words: the usage line, but for a fault of the sink or want of memory. The source is left alone.
     ensures usage { is_run (map string_bytes words.now) ≡ false →

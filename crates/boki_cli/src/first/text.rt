@@ -6,6 +6,7 @@ use crate::first::script::{Atom, Function, Statement};
 use crate::first::token::{Token, skip_spaces, tokens_of};
 use lb_base::{Memory, Value, Words, read_int, read_num, read_quoted};
 use std::alloc::{AllocError, AllocFailed, Global};
+use std::collections::BTreeMap;
 
 /// A line behind `events`.
 #[derive(Debug, Drop)]
@@ -158,8 +159,8 @@ struct Reader<'a> {
     /// The function's name, once there is one.
     name: Option<&'a str>,
     arity: usize,
-    /// The function's variables so far, its parameters first.
-    variables: Vec<&'a str>,
+    /// The function's variables so far with their numbers, its parameters first.
+    variables: BTreeMap<&'a str, usize>,
     statements: Vec<Statement>,
     events: Vec<Event>,
     submitted: bool,
@@ -173,7 +174,7 @@ impl<'a> Reader<'a> {
             stage: Stage::Setup,
             name: None,
             arity: 0,
-            variables: Vec::new(alloc),
+            variables: BTreeMap::new(alloc),
             statements: Vec::new(alloc),
             events: Vec::new(alloc),
             submitted: false,
@@ -241,11 +242,10 @@ impl<'a> Reader<'a> {
             let Token::Word(word) = token else {
                 return Err(Unread::NotBuilt);
             };
-            identifier(word)?;
-            if self.variables.contains(word) || self.variables.len() == 8 {
+            if self.place(word).is_some() || self.variables.len() == 8 {
                 return Err(Unread::NotBuilt);
             }
-            self.variables.push(word)?;
+            let _ = self.variable(word)?;
         }
         self.arity = self.variables.len();
         Ok(())
@@ -301,17 +301,14 @@ impl<'a> Reader<'a> {
         if let Some(i) = self.place(word) {
             return Ok(i);
         }
-        self.variables.push(word)?;
-        Ok(self.variables.len() - 1)
+        let i = self.variables.len();
+        let _ = self.variables.insert(word, i)?;
+        Ok(i)
     }
 
-    fn place(&self, word: &str) -> Option<usize> {
-        for (i, variable) in self.variables.iter().enumerate() {
-            if *variable == word {
-                return Some(i);
-            }
-        }
-        None
+    /// The number of a variable that is set.
+    fn place(&self, word: &'a str) -> Option<usize> {
+        self.variables.get(&word).copied()
     }
 
     /// From 1 to 64 operands joined by `+`.
