@@ -1,14 +1,14 @@
 -- Numbers read back from their text, and what is read is spelled so.
-use Rattle.std.proofs.Common.{◌≡◌, ◌≢◌, ℕ, zero, suc, ◌+◌, ◌^◌, ◌<◌, ◌≤◌, ℤ, pos, negsuc, Bool, true, false, ltb, eqb, List, [], ◌∷◌, length, drop, get_or, Some, None, if◌then◌else◌, refl, sym, lt-ltb, ltb-true, eqb-true, ap, subst, ◌∙◌, arith, lit<}
-use Rattle.std.specs.Prelude.{◌&&◌, ◌||◌, not, neg_ℤ, IfSome}
+use Rattle.std.proofs.Common.{◌≡◌, ◌≢◌, ℕ, zero, suc, ◌+◌, ◌^◌, ◌<◌, ℤ, pos, negsuc, Bool, true, false, ltb, eqb, List, [], ◌∷◌, length, drop, get_or, Some, None, if◌then◌else◌, refl, sym, lt-ltb, ltb-true, eqb-true, ap, ◌∙◌, arith, lit<}
+use Rattle.std.specs.Prelude.{◌&&◌, not, neg_ℤ, IfSome}
 use Rattle.std.specs.Fmt.{decimal, signed_decimal}
 use Rattle.std.specs.Str.{all_ascii_digits}
 use Rattle.std.specs.Str.Parse.{digits_value}
 use Rattle.std.proofs.lemmas.Bool.Decides.{nat_tests}
 use Rattle.std.proofs.lemmas.Fmt.{digits_decimal, digits_value-decimal, decimal_nonempty, first_decimal, decimal_digit, decimal-digits_value}
 use lib.Signed.{mag}
-use Rattle.lb_base.specs.Numeral.{is_numeral, num_of, is_integer, integer_value, is_small, int_of}
-use Rattle.lb_base.proofs.NumeralLemmas.{own, both, numeral_parts, picks}
+use Rattle.lb_base.specs.Numeral.{is_numeral, num_of, int_of}
+use Rattle.lb_base.proofs.NumeralLemmas.{own, numeral_parts, picks}
 
 is_numeral_by : (text : List ℕ) → 0 < length text → all_ascii_digits text ≡ true → (get_or text 0 0 ≡ 48 → length text ≡ 1) → is_numeral text ≡ true
 is_numeral_by text some digits front = grind (arith, nat_tests, some, digits, front)

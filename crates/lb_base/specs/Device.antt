@@ -1,5 +1,5 @@
 -- Sources and sinks in memory. Their calls are numbered from 1, and the calls with certain numbers fail.
-use Rattle.std.specs.Prelude.{ℕ, ◌+◌, ◌-◌, ◌^◌, ◌==◌, min, Bool, List, [], ◌++◌, length, take, drop, if◌then◌else◌}
+use Rattle.std.specs.Prelude.{ℕ, ◌+◌, ◌-◌, ◌^◌, ◌==◌, min, Bool, List, ◌++◌, length, take, drop, if◌then◌else◌}
 use Rattle.std.specs.List.{list_any}
 use Rattle.lb_base.specs.declared.outside.Taken.{Taken}
 use Rattle.lb_base.specs.declared.outside.Taken.TheVariants as taken

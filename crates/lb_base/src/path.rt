@@ -1,5 +1,5 @@
 ghost use Rattle.std.specs.Prelude.{◌≡◌, ◌==◌, ℕ, ◌≤◌, Some, refl, length, ◌∷◌};
-ghost use Rattle.lb_base.specs.Path.{IsPath, request_path, child_path};
+ghost use Rattle.lb_base.specs.Path.{IsPath, request_path, child_path, path_of};
 ghost use Rattle.std.specs.Cmp;
 ghost use Rattle.std.specs.Cmp.Lexicographic.{pointwise, slice_cmp, nat_list_eq_equiv, nat_list_cmp_total, texts_ties, texts_po};
 ghost use Rattle.std.specs.Cmp.Rules.{hashing};
@@ -70,6 +70,18 @@ impl Path {
             parts,
             len: self.len + 1,
         })
+    }
+
+    /// The path with these numbers, or None where they are none of a path.
+    pub fn from_parts(numbers: &[u32]) -> Option<Path>
+        ensures { result ≡ path_of numbers.now }
+    {
+        let (first, rest) = numbers.split_first()?;
+        let mut path = Path::request(*first)?;
+        'ordinals: for n in rest {
+            path = path.child(*n)?;
+        }
+        Some(path)
     }
 
     /// The numbers, from the left.

@@ -50,10 +50,19 @@ fn prints_values(rt: HostRuntime) -> Result<(), Fail> {
     assert_eq!(rt; print_int(alloc, -5)?.as_str(), "-5");
     assert_eq!(rt; print_value(alloc, &Value::Nothing)?.as_str(), "none");
     let text = Value::Text(Words::from_text(alloc, "a\n")?);
-    assert_eq!(rt; print_outcome(alloc, &Outcome::Good(text.clone()?))?.as_str(), "value \"a\\n\"");
+    assert_eq!(rt;
+        print_outcome(alloc, &Outcome::Good(text.clone()?))?.as_str(),
+        "value \"a\\n\""
+    );
     assert_eq!(rt; text.clone()? == text, true);
-    assert_eq!(rt; print_outcome(alloc, &Outcome::Trap(TrapKind::Overflow))?.as_str(), "trap overflow");
-    assert_eq!(rt; format!(in alloc; "{} {} {}", Mode::R, Mode::W, Mode::T)?.as_str(), "R W T");
+    assert_eq!(rt;
+        print_outcome(alloc, &Outcome::Trap(TrapKind::Overflow))?.as_str(),
+        "trap overflow"
+    );
+    assert_eq!(rt;
+        format!(in alloc; "{} {} {}", Mode::R, Mode::W, Mode::T)?.as_str(),
+        "R W T"
+    );
     Ok(())
 }
 
@@ -76,20 +85,32 @@ fn bounds_and_orders_paths(rt: HostRuntime) -> Result<(), Fail> {
 }
 
 fn source(alloc: Global, fail: &[u64]) -> Result<MemSource, Memory> {
-    Ok(MemSource::new(Vec::from_slice(alloc, b"hello")?, Vec::from_slice(alloc, fail)?))
+    Ok(MemSource::new(
+        Vec::from_slice(alloc, b"hello")?,
+        Vec::from_slice(alloc, fail)?,
+    ))
 }
 
 #[test]
 fn reads_a_source_to_its_end(rt: HostRuntime) -> Result<(), Fail> {
     let alloc = rt.alloc();
     let mut whole = source(alloc, &[])?;
-    assert_eq!(rt; read_all(alloc, &mut whole, 5)?.as_slice(), b"hello".as_slice());
+    assert_eq!(rt;
+        read_all(alloc, &mut whole, 5)?.as_slice(),
+        b"hello".as_slice()
+    );
     let mut sure = SureSource::new(Vec::from_slice(alloc, b"hello")?);
-    assert_eq!(rt; read_all(alloc, &mut sure, 9)?.as_slice(), b"hello".as_slice());
+    assert_eq!(rt;
+        read_all(alloc, &mut sure, 9)?.as_slice(),
+        b"hello".as_slice()
+    );
     let mut long = source(alloc, &[])?;
     assert_eq!(rt; read_all(alloc, &mut long, 4).err(), Some(ReadAll::TooLong));
     let mut failing = source(alloc, &[2])?;
-    assert_eq!(rt; read_all(alloc, &mut failing, 9).err(), Some(ReadAll::Fault));
+    assert_eq!(rt;
+        read_all(alloc, &mut failing, 9).err(),
+        Some(ReadAll::Fault)
+    );
     Ok(())
 }
 
@@ -100,7 +121,10 @@ fn writes_what_was_not_taken_again(rt: HostRuntime) -> Result<(), Fail> {
     write_line(&mut small, b"hello, world\n")?;
     assert_eq!(rt; small.bytes(), b"hello, world\n".as_slice());
     let mut failing = MemSink::new(alloc, 5, Vec::from_slice(alloc, &[2])?);
-    assert_eq!(rt; write_line(&mut failing, b"hello, world\n").err(), Some(PutFault::Fault));
+    assert_eq!(rt;
+        write_line(&mut failing, b"hello, world\n").err(),
+        Some(PutFault::Fault)
+    );
     assert_eq!(rt; failing.bytes(), b"hello".as_slice());
     let mut sure = SureSink::new(alloc);
     write_line(&mut sure, b"done\n")?;
