@@ -1,3 +1,6 @@
+ghost use Rattle.std.specs.Prelude.{◌≡◌, ◌<◌, ◌^◌, length};
+ghost use Rattle.boki_types.specs.Finding.{find as find_function, arity as arity_of};
+
 use crate::expr::Expr;
 use lb_base::{List, Words};
 
@@ -47,4 +50,35 @@ pub struct Function {
 #[derive(Debug, Drop)]
 pub struct Program {
     pub functions: List<Function>,
+}
+
+impl Program {
+    /// The number of the first function of that name, from 0; `None` exactly where no function has it.
+    ///
+    /// It needs fewer than 2^32 functions, as every program that is read from a text has. It takes no memory.
+    pub fn find(&self, name: &str) -> Option<u32>
+        requires { length self.now.functions < 2 ^ 32 }
+        ensures { result ≡ find_function name.now self.now.functions }
+    {
+        let mut number = 0;
+        'functions: for function in self.functions.as_slice() {
+            if name == function.name.as_str() {
+                return Some(number);
+            }
+            number += 1;
+        }
+        None
+    }
+
+    /// How many parameters the function of that number, from 0, has.
+    ///
+    /// It needs a function's number, and fewer than 2^32 parameters, as every function that is read from a text has. It
+    /// takes no memory.
+    pub fn arity(&self, function: u32) -> u32
+        requires known { function < length self.now.functions }
+        requires few { arity_of function self.now.functions < 2 ^ 32 }
+        ensures { result ≡ arity_of function self.now.functions }
+    {
+        self.functions.as_slice()[function as usize].params.len() as u32
+    }
 }
