@@ -4,6 +4,7 @@
 #![tactic(auto)]
 
 mod body;
+mod copies;
 mod event;
 mod expr;
 mod kind;
