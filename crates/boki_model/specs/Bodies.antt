@@ -128,7 +128,7 @@ is_identifier t = is_word_text t && nat_le (length t) 32 && not (list_any (bytes
 
 abbrev pub is_outcome : Outcome → Bool
 is_outcome (Good v) = is_value v
-is_outcome (Trap kind) = true
+is_outcome (Trap t) = true
 
 -- at most eight of them
 abbrev pub few : {X : Type 0} → List X → Bool

@@ -104,7 +104,7 @@ inside (Some names) f = f names
 abbrev pub spawns : List Function → ℕ → List ℕ → List ℕ → List Stmt → State → List Value → Flow
 spawns fs depth x f lines t args =
     cond ((depth == 4) || (suc t.spawned == 4096)) (trapped trap.Spawn)
-        (asks (One x) lines t (o.Spawn (suc t.spawned) (unwrap_or (find f fs) 0) args))
+    (asks (One x) lines t (o.Spawn (suc t.spawned) (unwrap_or (find f fs) 0) args))
 
 abbrev pub joins : List ℕ → List Stmt → State → Value → Flow
 joins x lines t (Int (pos n)) = cond (nat_le 1 n && nat_le n t.spawned) (asks (One x) lines t (o.Join n)) (trapped trap.Join)
@@ -223,7 +223,7 @@ set_targets _ vs t = t
 
 abbrev pub joined_with : Target → Outcome → State → Result State TrapKind
 joined_with target (Good v) t = Ok (set_target target v t)
-joined_with target (Trap kind) t = Err trap.Join
+joined_with target (Trap why) t = Err trap.Join
 
 abbrev pub answered : Op → Target → Answer → State → Option (Result State TrapKind)
 answered (o.Read key) target (a.Value v) t = Some (Ok (set_target target v t))
@@ -241,7 +241,7 @@ answered _ target _ t = None
 
 abbrev pub continued : List Function → ℕ → List Stmt → Result State TrapKind → Standing
 continued fs depth lines (Ok t) = run fs depth lines t
-continued fs depth lines (Err kind) = Ended (Trap kind)
+continued fs depth lines (Err why) = Ended (Trap why)
 
 abbrev pub resume : List Function → ℕ → Answer → Standing → Option Standing
 resume fs depth answer (Asks op target lines t) = option_map (continued fs depth lines) (answered op target answer t)

@@ -121,7 +121,7 @@ eval (e.Len' p' (more_of-Expr a end_of-Expr)) vs = then_ (eval a vs) length_of
 -- expressions from left to right
 abbrev pub eval_all : List Expr → List (List ℕ × Value) → Result (List Value) TrapKind
 eval_all [] vs = Ok []
-eval_all (a ∷ as) vs = then_ (eval a vs) (λ v. then_ (eval_all as vs) (λ ws. Ok (v ∷ ws)))
+eval_all (x ∷ xs) vs = then_ (eval x vs) (λ v. then_ (eval_all xs vs) (λ ws. Ok (v ∷ ws)))
 
 -- a name is a text of 1 to 64 bytes
 abbrev pub name_of : Value → Result (List ℕ) TrapKind

@@ -130,6 +130,10 @@ last key c k store view = option_map (λ w. w.value) (last_below c k (writes_of 
 abbrev pub and_key : List ℕ → List (List ℕ × Value) → List (List ℕ × Value)
 and_key key keys = put key Nothing keys
 
+abbrev pub initial_keys : List (List ℕ × Value) → List (List ℕ × Value)
+initial_keys [] = []
+initial_keys (x ∷ xs) = and_key x.0 (initial_keys xs)
+
 abbrev pub logged_key : Bool → Option (List ℕ × (Name × Option Value)) → List (List ℕ × Value) → List (List ℕ × Value)
 logged_key true (Some w) keys = and_key w.0 keys
 logged_key _ _ keys = keys
@@ -143,7 +147,7 @@ version_keys_below n [] keys = keys
 version_keys_below n (v ∷ vs) keys = cond (nat_lt v.cursor n) (and_key v.key (version_keys_below n vs keys)) (version_keys_below n vs keys)
 
 abbrev pub keys_below : ℕ → Store → List (Live Body) → List (List ℕ × Value)
-keys_below n store records = version_keys_below n store.versions (logged_keys_below n records store.initial)
+keys_below n store records = version_keys_below n store.versions (logged_keys_below n records (initial_keys store.initial))
 
 abbrev pub names_write : Name → Option (List ℕ × (Name × Option Value)) → Bool
 names_write name None = false
@@ -197,7 +201,7 @@ puts_in key cursor k store =
 abbrev pub after_put : List ℕ → ℕ → ℕ → Value → Store → Store
 after_put key cursor k value store =
     cond (puts_in key cursor k store)
-        (record store { versions = record { key = key; cursor = cursor; k = k; value = value } ∷ store.versions }) store
+    (record store { versions = record { key = key; cursor = cursor; k = k; value = value } ∷ store.versions }) store
 
 -- a read below (c, k); `n` is the number that the floor is compared with
 abbrev pub found : Option Value → Fenced
