@@ -36,6 +36,12 @@ def integer(n):
 def codes(text):
     return f'codes "{text}"'
 
+def quoted(token):
+    """The bytes of a quoted text."""
+    text = re.sub(r"\\(.)", lambda m: "\n" if m[1] == "n" else m[1], token[1:-1])
+    plain = text.isascii() and text.isprintable() and not set(text) & set('"\\')
+    return codes(text) if plain else f"({items(map(str, text.encode()))})"
+
 def listed(terms):
     """A list, a term a line, as the body of a definition."""
     return "\n" + "".join(f"    {term} ∷\n" for term in terms) + "    []" if terms else " []"
@@ -69,7 +75,7 @@ class Line:
         return self.take()
 
     def text(self):
-        return codes(self.take()[1:-1])
+        return quoted(self.take())
 
     def name(self):
         return codes(self.take())

@@ -6,7 +6,9 @@ pub mod LateWrite
 pub mod LostReply
 pub mod MissingObject
 pub mod MixedFormats
+pub mod NamesRead
 pub mod OutlivedTrim
+pub mod QueueInOrder
 pub mod ReadAtACursor
 pub mod ReadGroup
 pub mod ReadOfAVersion

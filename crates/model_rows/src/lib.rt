@@ -8,7 +8,9 @@ ghost use Rattle.model_rows.specs.LateWrite.{LateWriteRun};
 ghost use Rattle.model_rows.specs.LostReply.{LostReplyRun};
 ghost use Rattle.model_rows.specs.MissingObject.{MissingObjectRun};
 ghost use Rattle.model_rows.specs.MixedFormats.{MixedFormatsRun};
+ghost use Rattle.model_rows.specs.NamesRead.{NamesReadRun};
 ghost use Rattle.model_rows.specs.OutlivedTrim.{OutlivedTrimRun};
+ghost use Rattle.model_rows.specs.QueueInOrder.{QueueInOrderRun};
 ghost use Rattle.model_rows.specs.ReadAtACursor.{ReadAtACursorRun};
 ghost use Rattle.model_rows.specs.ReadGroup.{ReadGroupRun};
 ghost use Rattle.model_rows.specs.ReadOfAVersion.{ReadOfAVersionRun};
@@ -53,9 +55,19 @@ pub fn mixed_formats()
     ensures { MixedFormatsRun }
 {}
 
+/// A commit fails where another wrote a name that its transaction only read.
+pub fn names_read()
+    ensures { NamesReadRun }
+{}
+
 /// An attempt that outlives a trim stops; the floor, and what the store holds.
 pub fn outlived_trim()
     ensures { OutlivedTrimRun }
+{}
+
+/// Two pushes and a pop, which answers the value that was pushed first.
+pub fn queue_in_order()
+    ensures { QueueInOrderRun }
 {}
 
 /// In mode R a read answers at its cursor, and not the newest write.
