@@ -9,7 +9,7 @@ use Rattle.lb_base.specs.Path.{is_request, is_ordinal, are_ordinals, is_path, Is
 use Rattle.boki_types.specs.declared.body.Body.{Body}
 use Rattle.boki_types.specs.declared.body.Body.TheVariants as b
 use Rattle.boki_model.specs.Live.{Entry, Live, has_tag, count, meets, live}
-use Rattle.boki_model.specs.Bodies.{path_number, call_tag, step_tag, tags_of}
+use Rattle.boki_model.specs.Bodies.{path_number, call_tag, step_tag, tag_of, tags_of}
 use Rattle.boki_model.specs.TagLaws.{TagsTellPaths, first_of, IsFirst, AreFirst, is_submit, is_init, how_many, IsBegunOnce}
 
 -- what a path's numbers keep to
@@ -146,7 +146,7 @@ submit_first path _ tags condition first is = cc
 init_first : (path : List ℕ) (body : Body) (tags : List Tag) (condition : Option Cond) → IsFirst body tags condition → is_init path body ≡ true → (has_tag (step_tag path) tags ≡ true) × (condition ≡ first_of (step_tag path))
 init_first path (b.Init p) tags condition first is =
     let same : path ≡ p = (bytes_eq-Decides path p).0 is in
-    (ap (has_tag (step_tag path)) first.0 ∙ ap (λ q. has_tag (step_tag q) (tags_of (b.Init p))) same ∙ has_own (step_tag p) _, first.1 ∙ ap (λ q. first_of (step_tag q)) (sym same))
+    (ap (has_tag (step_tag path)) first.0 ∙ ap (λ q. has_tag (step_tag q) (tags_of (b.Init p))) same ∙ has_own (step_tag p) (tag_of 9 0 ∷ []), first.1 ∙ ap (λ q. first_of (step_tag q)) (sym same))
 init_first path _ tags condition first is = cc
 
 submits_alone : (path : List ℕ) (log : List (Entry Body)) → AreFirst log → IsAlone (is_submit path) (call_tag path) log
