@@ -14,3 +14,5 @@ pub mod LogLaws
 pub mod TagLaws
 pub mod MapLaws
 pub mod WriteLaws
+pub mod OrderLaws
+pub mod Entries

@@ -4,5 +4,6 @@
 
 pub mod log_laws;
 pub mod map_laws;
+pub mod order_laws;
 pub mod tag_laws;
 pub mod write_laws;
