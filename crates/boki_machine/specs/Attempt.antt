@@ -38,8 +38,20 @@ pub record Attempt : Type 0 where
 
 abbrev pub new_attempt : List ℕ → ℕ → Attempt
 new_attempt path engine = record {
-  path = path; engine = engine; life = Running; mode = R; function = 0; args = []; answers = [];
-  cursor = 0; place = 0; k = 0; waiting = false; stored = false; late = false; begun = None
+  path = path;
+  engine = engine;
+  life = Running;
+  mode = R;
+  function = 0;
+  args = [];
+  answers = [];
+  cursor = 0;
+  place = 0;
+  k = 0;
+  waiting = false;
+  stored = false;
+  late = false;
+  begun = None;
 }
 
 -- the index of its next operation

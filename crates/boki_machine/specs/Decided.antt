@@ -43,7 +43,15 @@ pub record Point : Type 0 where
 
 abbrev pub unknown : Point
 unknown = record {
-  begun = false; mode = R; function = 0; args = []; place = 0; cursor = 0; answers = []; transaction = None; result = None
+  begun = false;
+  mode = R;
+  function = 0;
+  args = [];
+  place = 0;
+  cursor = 0;
+  answers = [];
+  transaction = None;
+  result = None;
 }
 
 abbrev pub asked_at : List Function → List ℕ → Point → List Answer → Option Ask
@@ -99,8 +107,10 @@ transaction_behind seq _ old = old
 -- an operation's record, with its index: the free operations before it are done, and then it is answered
 abbrev pub operated : List Function → Store → List (Live Body) → List ℕ → ℕ → Body → ℕ → Point → Point
 operated fs store past path seq body index p = record p {
-  place = suc p.place; cursor = seq; transaction = transaction_behind seq body p.transaction;
-  answers = and_answer (own_answer store past seq body) (more fs store past path p (index - suc (length p.answers)))
+  place = suc p.place;
+  cursor = seq;
+  transaction = transaction_behind seq body p.transaction;
+  answers = and_answer (own_answer store past seq body) (more fs store past path p (index - suc (length p.answers)));
 }
 
 abbrev pub function_of : List Function → Option Call → ℕ
@@ -113,17 +123,30 @@ args_of (Some c) = c.args
 
 abbrev pub initiated : Setup → List Function → List (Live Body) → ℕ → Option Call → Point
 initiated setup fs past seq call = record {
-  begun = true; mode = mode_behind setup.mode past; function = function_of fs call; args = args_of call;
-  place = 1; cursor = seq; answers = []; transaction = None; result = None
+  begun = true;
+  mode = mode_behind setup.mode past;
+  function = function_of fs call;
+  args = args_of call;
+  place = 1;
+  cursor = seq;
+  answers = [];
+  transaction = None;
+  result = None;
 }
 
-abbrev pub finished : ℕ → Outcome → Point → Point
-finished seq outcome p = record p { place = suc p.place; cursor = seq; result = Some outcome }
+-- the end, with its index: the free operations before it are done, and there is no further operation
+abbrev pub finished : List Function → Store → List (Live Body) → List ℕ → ℕ → Outcome → ℕ → Point → Point
+finished fs store past path seq outcome index p = record p {
+  place = suc p.place;
+  cursor = seq;
+  result = Some outcome;
+  answers = more fs store past path p (index - suc (length p.answers));
+}
 
 -- one step record of the path
 abbrev pub stepped : Setup → List Function → Store → List (Live Body) → List ℕ → ℕ → Body → ℕ → Point → Point
 stepped setup fs store past path seq (b.Init p) index d = initiated setup fs past seq (call_of path past)
-stepped setup fs store past path seq (b.Finish p i outcome) index d = finished seq outcome d
+stepped setup fs store past path seq (b.Finish p i outcome) index d = finished fs store past path seq outcome index d
 stepped setup fs store past path seq body index d = operated fs store past path seq body index d
 
 abbrev pub advanced : Setup → List Function → Store → List (Live Body) → List ℕ → Live Body → Option (List ℕ × ℕ) → Point → Point

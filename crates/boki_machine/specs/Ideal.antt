@@ -81,7 +81,7 @@ abbrev pub commits : Bool → List ℕ → Invocation → List (List ℕ × Valu
 commits false p i writes s = answers p (record i { transaction = None }) (a.Committed false) s
 commits true p i writes s =
     answers p (record i { transaction = None }) (a.Committed true)
-        (record s { names = put_all writes s.names; invocations = dirty_all (written writes) s.invocations })
+    (record s { names = put_all writes s.names; invocations = dirty_all (written writes) s.invocations })
 
 -- a join is undefined where the child has no result
 abbrev pub joins : List ℕ → Invocation → Option Outcome → Ideal → Option Ideal

@@ -60,8 +60,13 @@ done m line = record { machine = m; line = line }
 
 abbrev pub opening : Setup → List (List ℕ × Value) → Machine
 opening t objects = record {
-  shards = replicate t.shards []; counts = replicate t.shards (replicate (t.replicas - 1) 0); vectors = [];
-  positions = replicate t.engines 0; aux = replicate t.engines []; store = opening_store objects; attempts = []
+  shards = replicate t.shards [];
+  counts = replicate t.shards (replicate (t.replicas - 1) 0);
+  vectors = [];
+  positions = replicate t.engines 0;
+  aux = replicate t.engines [];
+  store = opening_store objects;
+  attempts = [];
 }
 
 -- the ordered list, and its live records, the newest first
@@ -169,7 +174,9 @@ kill_on engine xs = map (λ x. cond (runs_on engine x.attempt) (record x { attem
 
 abbrev pub restarts : ℕ → Machine → Machine
 restarts engine m = record m {
-  positions = slice_set m.positions (engine - 1) 0; aux = slice_set m.aux (engine - 1) []; attempts = kill_on engine m.attempts
+  positions = slice_set m.positions (engine - 1) 0;
+  aux = slice_set m.aux (engine - 1) [];
+  attempts = kill_on engine m.attempts;
 }
 
 abbrev pub starts : Machine → ℕ → List ℕ → ℕ → Option Attempt → Done

@@ -50,7 +50,7 @@ report fs m =
       results = results records;
       objects = objects (suc (length (log m))) m.store records;
       queues = queues records;
-      stores = stored (commits records)
+      stores = stored (commits records);
     }
 
 abbrev pub and_outcome : List ℕ → Option Outcome → List (List ℕ × Outcome) → List (List ℕ × Outcome)
@@ -63,5 +63,9 @@ ideal_results (x ∷ xs) = and_outcome x.0 x.1.result (ideal_results xs)
 
 abbrev pub ideal_report : List Turn → Ideal → Report
 ideal_report ts s = record {
-  turns = ts; results = ideal_results s.invocations; objects = s.objects; queues = s.queues; stores = s.names
+  turns = ts;
+  results = ideal_results s.invocations;
+  objects = s.objects;
+  queues = s.queues;
+  stores = s.names;
 }

@@ -145,7 +145,7 @@ logs_write true stored t store at key v = sends_write t store at key v (Some v)
 logs_write false true t store at key v = sends_write t store at key v None
 logs_write false false t store at key v =
     cond (nat_lt t.cursor store.floor) (gone t store)
-        (moves (record t { stored = true }) (after_named (name_for t) t.cursor v store) (l.Store key v))
+    (moves (record t { stored = true }) (after_named (name_for t) t.cursor v store) (l.Store key v))
 
 abbrev pub puts_free : Put → Attempt → Store → List ℕ → Value → Move
 puts_free put.Gone t store key v = gone t store
@@ -221,7 +221,7 @@ asked_by fs t = asked fs t.function t.args (length t.path) t.answers
 abbrev pub goes_on : Setup → List Function → Attempt → Store → List (Live Body) → Sent → Option Ask → Move
 goes_on setup fs t store view at ask =
     takes t store view (answers_to t ask (nth (step_tag t.path) t.place view))
-        (unless_waiting t.waiting t store (asks setup fs t store view at ask))
+    (unless_waiting t.waiting t store (asks setup fs t store view at ask))
 
 abbrev pub placed : Setup → List Function → Attempt → Store → List (Live Body) → Sent → Call → ℕ → Move
 placed setup fs t store view at call zero = begins setup fs t store view at call (nth (step_tag t.path) 0 view)

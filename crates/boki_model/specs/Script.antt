@@ -104,7 +104,7 @@ inside (Some names) f = f names
 abbrev pub spawns : List Function → ℕ → List ℕ → List ℕ → List Stmt → State → List Value → Flow
 spawns fs depth x f lines t args =
     cond ((depth == 4) || (suc t.spawned == 4096)) (trapped trap.Spawn)
-        (asks (One x) lines t (o.Spawn (suc t.spawned) (unwrap_or (find f fs) 0) args))
+    (asks (One x) lines t (o.Spawn (suc t.spawned) (unwrap_or (find f fs) 0) args))
 
 abbrev pub joins : List ℕ → List Stmt → State → Value → Flow
 joins x lines t (Int (pos n)) = cond (nat_le 1 n && nat_le n t.spawned) (asks (One x) lines t (o.Join n)) (trapped trap.Join)

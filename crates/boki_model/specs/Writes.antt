@@ -201,7 +201,7 @@ puts_in key cursor k store =
 abbrev pub after_put : List ℕ → ℕ → ℕ → Value → Store → Store
 after_put key cursor k value store =
     cond (puts_in key cursor k store)
-        (record store { versions = record { key = key; cursor = cursor; k = k; value = value } ∷ store.versions }) store
+    (record store { versions = record { key = key; cursor = cursor; k = k; value = value } ∷ store.versions }) store
 
 -- a read below (c, k); `n` is the number that the floor is compared with
 abbrev pub found : Option Value → Fenced
