@@ -1,13 +1,12 @@
 -- The places of an entry, and of the whole order.
-use Rattle.std.proofs.Common.{◌≡◌, ◌⊎◌, inl, inr, ℕ, zero, suc, ◌+◌, ◌-◌, ◌<◌, ◌≤◌, Bool, true, false, cond, eqb, leb, List, [], ◌∷◌, ◌++◌, length, take, drop, reverse, Option, Some, None, option_and_then, slice_get, refl, sym, ap, ◌∙◌, subst, arith}
-use Rattle.std.proofs.lemmas.Bool.{leb-true, leb-false, le-leb, lt-leb, cases_lt}
+use Rattle.std.proofs.Common.{◌≡◌, ◌⊎◌, inl, inr, ℕ, zero, suc, ◌+◌, ◌-◌, ◌<◌, ◌≤◌, Bool, true, false, cond, leb, List, [], ◌∷◌, ◌++◌, length, reverse, Some, None, refl, sym, ap, ◌∙◌, arith}
+use Rattle.std.proofs.lemmas.Bool.{leb-true, leb-false, cases_lt}
 use Rattle.std.proofs.lemmas.List.{length-append, length-reverse}
-use mathlib.Core.List.{reverse-cons}
-use Rattle.boki_model.specs.Order.{first_count, other_counts, between, added, last_vector, order, places_from, places, ordered_places, at_seq, seq_in, seq_of, locate}
-use Rattle.boki_model.specs.OrderLaws.{AreAtMost, Grow, Have, local_record, record_at, TellEachOther}
+use Rattle.boki_model.specs.Order.{first_count, other_counts, between, added, last_vector, places_from, places, ordered_places, at_seq, seq_in, seq_of, locate}
+use Rattle.boki_model.specs.OrderLaws.{AreAtMost, Grow, Have}
 use Rattle.boki_model.specs.Entries.{count_at, entry_size, place_within, number_within}
 use Rattle.boki_model.proofs.Orders.{have_less, Fit, fit, length-places_from, have_places}
-use Rattle.boki_model.proofs.Places.{at_seq_past, at_seq_zero, at_seq_low, at_seq_high, seq_in_miss, seq_in_hit, seq_in_located, length-between, between_places, at_seq_places, seq_places_other, seq_places_low, seq_places_high, seq_places_in}
+use Rattle.boki_model.proofs.Places.{at_seq_low, at_seq_high, seq_in_miss, seq_in_hit, length-between, between_places, at_seq_places, seq_places_other, seq_places_low, seq_places_high, seq_places_in}
 
 module _ {A : Type 0} where
   -- what a shard adds, the newest first
@@ -50,10 +49,11 @@ module _ {A : Type 0} where
     where
       size : length (part (first_count old) (first_count new) (suc k) s) ≡ first_count new - first_count old
       size = length-part (first_count old) (first_count new) (suc k) s h.1
+
       at : (0 < q - (first_count new - first_count old) → at_seq (q - (first_count new - first_count old)) (added (places (suc k) ss) (other_counts old) (other_counts new)) ≡ place_within (length ss) (suc k) (q - (first_count new - first_count old)) (other_counts old) (other_counts new))
           → (t : Bool) → leb q (first_count new - first_count old) ≡ t
           → at_seq q (added (places (suc k) ss) (other_counts old) (other_counts new) ++ part (first_count old) (first_count new) (suc k) s)
-            ≡ cond t (Some (suc k, first_count old + q)) (place_within (length ss) (suc k) (q - (first_count new - first_count old)) (other_counts old) (other_counts new))
+          ≡ cond t (Some (suc k, first_count old + q)) (place_within (length ss) (suc k) (q - (first_count new - first_count old)) (other_counts old) (other_counts new))
       at ih true e =
           at_seq_low q (added (places (suc k) ss) (other_counts old) (other_counts new)) (part (first_count old) (first_count new) (suc k) s) (omega (arith, size, leb-true q (first_count new - first_count old) e))
           ∙ at_seq_part q (first_count old) (first_count new) (suc k) s h.1 lt (leb-true q (first_count new - first_count old) e)
@@ -67,7 +67,7 @@ module _ {A : Type 0} where
   seq_before_added x l k [] old new le = refl
   seq_before_added x l k (s ∷ ss) old new le =
       seq_in_miss x l (added (places (suc k) ss) (other_counts old) (other_counts new)) (part (first_count old) (first_count new) (suc k) s)
-          (seq_before_added x l (suc k) ss (other_counts old) (other_counts new) (omega arith))
+      (seq_before_added x l (suc k) ss (other_counts old) (other_counts new) (omega arith))
       ∙ seq_other_part x l (first_count old) (first_count new) (suc k) s (λ e. omega arith)
 
   pub seq_in_added : (k i l : ℕ) (shards : List (List A)) (old new : List ℕ) → Fit shards old new → i < length shards → count_at i old < l → l ≤ count_at i new
@@ -75,27 +75,27 @@ module _ {A : Type 0} where
   seq_in_added k i l [] old new h within lt le = absurd (let h : ⊥ = omega arith in h)
   seq_in_added k zero l (s ∷ ss) old new h within lt le =
       seq_in_miss (suc (k + 0)) l (added (places (suc k) ss) (other_counts old) (other_counts new)) (part (first_count old) (first_count new) (suc k) s)
-          (seq_before_added (suc (k + 0)) l (suc k) ss (other_counts old) (other_counts new) (omega arith))
+      (seq_before_added (suc (k + 0)) l (suc k) ss (other_counts old) (other_counts new) (omega arith))
       ∙ ap (λ n. seq_in (suc n) l (part (first_count old) (first_count new) (suc k) s)) (let e : k + 0 ≡ k = omega arith in e)
       ∙ seq_in_part l (first_count old) (first_count new) (suc k) s h.1 lt le
   seq_in_added k (suc i) l (s ∷ ss) old new h within lt le =
       seq_in_hit (suc (k + suc i)) l (number_within i l (other_counts old) (other_counts new)) (added (places (suc k) ss) (other_counts old) (other_counts new)) (part (first_count old) (first_count new) (suc k) s)
-          (ap (λ n. seq_in (suc n) l (added (places (suc k) ss) (other_counts old) (other_counts new))) (let e : k + suc i ≡ suc k + i = omega arith in e)
-              ∙ seq_in_added (suc k) i l ss (other_counts old) (other_counts new) h.2 (omega arith) lt le)
+      (ap (λ n. seq_in (suc n) l (added (places (suc k) ss) (other_counts old) (other_counts new))) (let e : k + suc i ≡ suc k + i = omega arith in e)
+      ∙ seq_in_added (suc k) i l ss (other_counts old) (other_counts new) h.2 (omega arith) lt le)
       ∙ ap Some (let e : number_within i l (other_counts old) (other_counts new) + length (part (first_count old) (first_count new) (suc k) s) ≡ (first_count new - first_count old) + number_within i l (other_counts old) (other_counts new)
-                    = omega (arith, length-part (first_count old) (first_count new) (suc k) s h.1) in e)
+      = omega (arith, length-part (first_count old) (first_count new) (suc k) s h.1) in e)
 
   pub seq_not_added : (k i l : ℕ) (shards : List (List A)) (old new : List ℕ) → Fit shards old new → (l ≤ count_at i old) ⊎ (count_at i new < l) → seq_in (suc (k + i)) l (added (places k shards) old new) ≡ None
   seq_not_added k i l [] old new h out = refl
   seq_not_added k zero l (s ∷ ss) old new h out =
       seq_in_miss (suc (k + 0)) l (added (places (suc k) ss) (other_counts old) (other_counts new)) (part (first_count old) (first_count new) (suc k) s)
-          (seq_before_added (suc (k + 0)) l (suc k) ss (other_counts old) (other_counts new) (omega arith))
+      (seq_before_added (suc (k + 0)) l (suc k) ss (other_counts old) (other_counts new) (omega arith))
       ∙ ap (λ n. seq_in (suc n) l (part (first_count old) (first_count new) (suc k) s)) (let e : k + 0 ≡ k = omega arith in e)
       ∙ seq_not_part l (first_count old) (first_count new) (suc k) s h.0 h.1 out
   seq_not_added k (suc i) l (s ∷ ss) old new h out =
       seq_in_miss (suc (k + suc i)) l (added (places (suc k) ss) (other_counts old) (other_counts new)) (part (first_count old) (first_count new) (suc k) s)
-          (ap (λ n. seq_in (suc n) l (added (places (suc k) ss) (other_counts old) (other_counts new))) (let e : k + suc i ≡ suc k + i = omega arith in e)
-              ∙ seq_not_added (suc k) i l ss (other_counts old) (other_counts new) h.2 out)
+      (ap (λ n. seq_in (suc n) l (added (places (suc k) ss) (other_counts old) (other_counts new))) (let e : k + suc i ≡ suc k + i = omega arith in e)
+      ∙ seq_not_added (suc k) i l ss (other_counts old) (other_counts new) h.2 out)
       ∙ seq_other_part (suc (k + suc i)) l (first_count old) (first_count new) (suc k) s (λ e. omega arith)
 
   -- a shard that there is not has nothing in it
@@ -104,8 +104,8 @@ module _ {A : Type 0} where
   seq_past_added k zero l (s ∷ ss) old new le = absurd (let h : ⊥ = omega arith in h)
   seq_past_added k (suc i) l (s ∷ ss) old new le =
       seq_in_miss (suc (k + suc i)) l (added (places (suc k) ss) (other_counts old) (other_counts new)) (part (first_count old) (first_count new) (suc k) s)
-          (ap (λ n. seq_in (suc n) l (added (places (suc k) ss) (other_counts old) (other_counts new))) (let e : k + suc i ≡ suc k + i = omega arith in e)
-              ∙ seq_past_added (suc k) i l ss (other_counts old) (other_counts new) (omega arith))
+      (ap (λ n. seq_in (suc n) l (added (places (suc k) ss) (other_counts old) (other_counts new))) (let e : k + suc i ≡ suc k + i = omega arith in e)
+      ∙ seq_past_added (suc k) i l ss (other_counts old) (other_counts new) (omega arith))
       ∙ seq_other_part (suc (k + suc i)) l (first_count old) (first_count new) (suc k) s (λ e. omega arith)
 
 -- what a place of an entry is
@@ -123,8 +123,10 @@ placed (suc w) k q old new x l lt e = at (placed w (suc k) (q - (first_count new
   where
     one : (p r : ℕ × ℕ) → Some p ≡ Some r → p.0 ≡ r.0
     one p r e = cc
+
     two : (p r : ℕ × ℕ) → Some p ≡ Some r → p.1 ≡ r.1
     two p r e = cc
+
     at : (0 < q - (first_count new - first_count old) → place_within w (suc k) (q - (first_count new - first_count old)) (other_counts old) (other_counts new) ≡ Some (x, l) → IsPlaced w (suc k) (q - (first_count new - first_count old)) (other_counts old) (other_counts new) x l)
         → (t : Bool) → leb q (first_count new - first_count old) ≡ t
         → cond t (Some (suc k, first_count old + q)) (place_within w (suc k) (q - (first_count new - first_count old)) (other_counts old) (other_counts new)) ≡ Some (x, l)
@@ -160,7 +162,7 @@ count_most zero (n ∷ ns) new h = h.0
 count_most (suc i) [] new h = count_most i [] (other_counts new) tt
 count_most (suc i) (n ∷ ns) new h = count_most i ns (other_counts new) h.1
 
-length-places : {A : Type 0} (k : ℕ) (shards : List (List A)) → length (places k shards) ≡ length shards
+pub length-places : {A : Type 0} (k : ℕ) (shards : List (List A)) → length (places k shards) ≡ length shards
 length-places k [] = refl
 length-places k (s ∷ ss) = ap suc (length-places (suc k) ss)
 
@@ -170,13 +172,14 @@ module _ {A : Type 0} (shards : List (List A)) where
   seq_not_counted i l [] grow have out = refl
   seq_not_counted i l (v ∷ vs) grow have out =
       seq_in_miss (suc i) l (added (places 0 shards) (last_vector vs) v) (ordered_places shards vs)
-          (ap (λ n. seq_in (suc n) l (added (places 0 shards) (last_vector vs) v)) (let e : i ≡ 0 + i = omega arith in e)
-              ∙ seq_not_added 0 i l shards (last_vector vs) v (fit shards (last_vector vs) v grow.0 have) (either out))
+      (ap (λ n. seq_in (suc n) l (added (places 0 shards) (last_vector vs) v)) (let e : i ≡ 0 + i = omega arith in e)
+      ∙ seq_not_added 0 i l shards (last_vector vs) v (fit shards (last_vector vs) v grow.0 have) (either out))
       ∙ seq_not_counted i l vs grow.1 (have_less shards (last_vector vs) v grow.0 have) (before out)
     where
       either : (l ≡ 0) ⊎ (count_at i v < l) → (l ≤ count_at i (last_vector vs)) ⊎ (count_at i v < l)
       either (inl e) = inl (omega arith)
       either (inr h) = inr h
+
       before : (l ≡ 0) ⊎ (count_at i v < l) → (l ≡ 0) ⊎ (count_at i (last_vector vs) < l)
       before (inl e) = inl e
       before (inr h) = inr (omega (arith, count_most i (last_vector vs) v grow.0))
@@ -187,6 +190,7 @@ module _ {A : Type 0} (shards : List (List A)) where
     where
       none_some : None ≡ Some q → ⊥
       none_some e = cc
+
       at : (count_at i (last_vector vectors) < l) ⊎ (l ≤ count_at i (last_vector vectors)) → l ≤ count_at i (last_vector vectors)
       at (inl h) = absurd (none_some (sym (seq_not_counted i l vectors grow have (inr h)) ∙ is))
       at (inr h) = h
@@ -200,8 +204,8 @@ module _ {A : Type 0} (shards : List (List A)) where
   length_ordered v vs grow have =
       length-append (added (places 0 shards) (last_vector vs) v) (ordered_places shards vs)
       ∙ ap (λ n. n + length (ordered_places shards vs))
-          (length-added (places 0 shards) (last_vector vs) v (fit (places 0 shards) (last_vector vs) v grow.0 (have_places 0 shards v have))
-              ∙ ap (λ n. entry_size n (last_vector vs) v) (length-places 0 shards))
+      (length-added (places 0 shards) (last_vector vs) v (fit (places 0 shards) (last_vector vs) v grow.0 (have_places 0 shards v have))
+      ∙ ap (λ n. entry_size n (last_vector vs) v) (length-places 0 shards))
 
   -- where a seqnum of the newest entry, or of an earlier one, stands
   pub locate_new : (q : ℕ) (v : List ℕ) (vs : List (List ℕ)) → Grow (v ∷ vs) → Have shards v → length (ordered_places shards vs) < q
@@ -218,20 +222,20 @@ module _ {A : Type 0} (shards : List (List A)) where
       → seq_of (suc i) l shards (v ∷ vs) ≡ Some (number_within i l (last_vector vs) v + length (ordered_places shards vs))
   seq_of_new i l v vs grow have within lt le =
       seq_in_hit (suc i) l (number_within i l (last_vector vs) v) (added (places 0 shards) (last_vector vs) v) (ordered_places shards vs)
-          (ap (λ n. seq_in (suc n) l (added (places 0 shards) (last_vector vs) v)) (let e : i ≡ 0 + i = omega arith in e)
-              ∙ seq_in_added 0 i l shards (last_vector vs) v (fit shards (last_vector vs) v grow.0 have) within lt le)
+      (ap (λ n. seq_in (suc n) l (added (places 0 shards) (last_vector vs) v)) (let e : i ≡ 0 + i = omega arith in e)
+      ∙ seq_in_added 0 i l shards (last_vector vs) v (fit shards (last_vector vs) v grow.0 have) within lt le)
 
   pub seq_of_old : (i l : ℕ) (v : List ℕ) (vs : List (List ℕ)) → Grow (v ∷ vs) → Have shards v → l ≤ count_at i (last_vector vs) → seq_of (suc i) l shards (v ∷ vs) ≡ seq_of (suc i) l shards vs
   seq_of_old i l v vs grow have le =
       seq_in_miss (suc i) l (added (places 0 shards) (last_vector vs) v) (ordered_places shards vs)
-          (ap (λ n. seq_in (suc n) l (added (places 0 shards) (last_vector vs) v)) (let e : i ≡ 0 + i = omega arith in e)
-              ∙ seq_not_added 0 i l shards (last_vector vs) v (fit shards (last_vector vs) v grow.0 have) (inl le))
+      (ap (λ n. seq_in (suc n) l (added (places 0 shards) (last_vector vs) v)) (let e : i ≡ 0 + i = omega arith in e)
+      ∙ seq_not_added 0 i l shards (last_vector vs) v (fit shards (last_vector vs) v grow.0 have) (inl le))
 
   pub seq_of_no_shard : (i l : ℕ) (vectors : List (List ℕ)) → length shards ≤ i → seq_of (suc i) l shards vectors ≡ None
   seq_of_no_shard i l [] le = refl
   seq_of_no_shard i l (v ∷ vs) le =
       seq_in_miss (suc i) l (added (places 0 shards) (last_vector vs) v) (ordered_places shards vs)
-          (ap (λ n. seq_in (suc n) l (added (places 0 shards) (last_vector vs) v)) (let e : i ≡ 0 + i = omega arith in e) ∙ seq_past_added 0 i l shards (last_vector vs) v le)
+      (ap (λ n. seq_in (suc n) l (added (places 0 shards) (last_vector vs) v)) (let e : i ≡ 0 + i = omega arith in e) ∙ seq_past_added 0 i l shards (last_vector vs) v le)
       ∙ seq_of_no_shard i l vs le
 
   pub numbered : (x l q : ℕ) (vectors : List (List ℕ)) → Grow vectors → Have shards (last_vector vectors) → locate q shards vectors ≡ Some (x, l) → seq_of x l shards vectors ≡ Some q
@@ -240,16 +244,19 @@ module _ {A : Type 0} (shards : List (List A)) where
     where
       less : Have shards (last_vector vs)
       less = have_less shards (last_vector vs) v grow.0 have
+
       old : seq_of x l shards vs ≡ Some q → (y : ℕ) → x ≡ y → seq_of x l shards (v ∷ vs) ≡ Some q
       old e zero z = absurd (let none_some : None ≡ Some q → ⊥ = λ f. cc in none_some (sym (seq_not_zero l vs) ∙ ap (λ n. seq_of n l shards vs) (sym z) ∙ e))
       old e (suc i) z =
           let f = ap (λ n. seq_of n l shards vs) (sym z) ∙ e in
           ap (λ n. seq_of n l shards (v ∷ vs)) z ∙ seq_of_old i l v vs grow have (seq_counted i l q vs grow.1 less f) ∙ f
+
       new : length (ordered_places shards vs) < q → IsPlaced (length shards) 0 (q - length (ordered_places shards vs)) (last_vector vs) v x l → seq_of x l shards (v ∷ vs) ≡ Some q
       new lt p =
           ap (λ n. seq_of n l shards (v ∷ vs)) (p.shard ∙ (let e : suc (0 + p.i) ≡ suc p.i = omega arith in e))
           ∙ seq_of_new p.i l v vs grow have p.within p.above p.upto
           ∙ ap Some (let e : number_within p.i l (last_vector vs) v + length (ordered_places shards vs) ≡ q = omega (arith, p.number) in e)
+
       at : (locate q shards vs ≡ Some (x, l) → seq_of x l shards vs ≡ Some q) → (length (ordered_places shards vs) < q) ⊎ (q ≤ length (ordered_places shards vs)) → seq_of x l shards (v ∷ vs) ≡ Some q
       at ih (inl lt) = new lt (placed (length shards) 0 (q - length (ordered_places shards vs)) (last_vector vs) v x l (omega arith) (sym (locate_new q v vs grow have lt) ∙ is))
       at ih (inr le) = old (ih (sym (locate_old q v vs le) ∙ is)) x refl

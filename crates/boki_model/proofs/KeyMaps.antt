@@ -1,14 +1,13 @@
 -- Maps whose keys are lists of numbers, by std's lemmas on lists of entries.
-use Rattle.std.proofs.Common.{◌≡◌, ℕ, Bool, true, false, cond, T, is_eq, List, Some, refl, sym, ap, ◌∙◌, subst}
-use Rattle.std.specs.FinMap as map
+use Rattle.std.proofs.Common.{◌≡◌, ℕ, Bool, true, false, T, is_eq, List, Some, refl, sym, ◌∙◌, subst}
 use Rattle.std.specs.FinMap.{slice_cmp-IsAntisymmetric, nat_cmp-IsAntisymmetric}
 use Rattle.std.specs.FinMap.Entries.{find-put, is_sorted-put, same_entries}
 use Rattle.std.specs.Cmp.Lexicographic.{nat_list_cmp_total}
-use Rattle.std.proofs.lemmas.Bool.{ne_eqb, false_from_ne_true, cond-true, cond-false}
+use Rattle.std.proofs.lemmas.Bool.{false_from_ne_true, cond-true, cond-false}
 use Rattle.std.proofs.lemmas.Slice.Eq.{bytes_eq-Decides}
 use Rattle.std.proofs.lemmas.Map.Text.{is_eq-slice_cmp}
 use Rattle.boki_model.specs.Maps.{key_order, get, put}
-use Rattle.boki_model.specs.MapLaws.{InOrder, PutsOne, AnswersTellMaps}
+use Rattle.boki_model.specs.MapLaws.{InOrder, PutsOne}
 
 from_T : (x : Bool) → T x → x ≡ true
 from_T true h = refl

@@ -6,3 +6,4 @@ pub mod Orders
 pub mod Places
 pub mod EntryPlaces
 pub mod Standing
+pub mod Cuts

@@ -1,12 +1,12 @@
 -- Live records and their reads, as the log grows.
-use Rattle.std.proofs.Common.{◌≡◌, ◌⊎◌, inl, inr, ℕ, zero, suc, ◌-◌, ◌<◌, ◌≤◌, Bool, true, false, cond, ◌&&◌, eqb, leb, List, [], ◌∷◌, ◌++◌, length, drop, reverse, slice_get, Some, None, option_map, refl, sym, ap, ◌∙◌, subst, arith}
-use Rattle.std.proofs.lemmas.Bool.{eqb-true, eqb-false, leb-true, leb-false, le-leb, lt-leb, eq-eqb, ne_eqb, cases_lt}
-use Rattle.std.proofs.lemmas.List.{length-reverse, length-append}
+use Rattle.std.proofs.Common.{◌≡◌, ◌⊎◌, inl, inr, ℕ, zero, suc, ◌-◌, ◌<◌, ◌≤◌, Bool, true, false, cond, ◌&&◌, eqb, List, [], ◌∷◌, ◌++◌, length, drop, reverse, slice_get, Some, None, option_map, refl, sym, ap, ◌∙◌, arith}
+use Rattle.std.proofs.lemmas.Bool.{eqb-true, le-leb, lt-leb, eq-eqb, ne_eqb, cases_lt}
+use Rattle.std.proofs.lemmas.List.{length-reverse}
 use Rattle.std.proofs.lemmas.Bool.Decides.{nat_tests}
 use mathlib.Core.List.{reverse-cons}
 use Rattle.boki_model.specs.Live.{Entry, Live, has_tag, count, meets, joined, live, upto}
 use Rattle.boki_model.specs.Reads.{tagged, nth, nth_seq}
-use Rattle.boki_model.specs.LogLaws.{FallBelow, SeqnumsFall, EarlierReadsStay, PrefixIsSeen, PlacesStay, NewPlaceIsCount, PlacesAreAscending}
+use Rattle.boki_model.specs.LogLaws.{FallBelow}
 
 module _ {A : Type 0} where
   pub fall_more : (n m : ℕ) (xs : List (Live A)) → n ≤ m → FallBelow n xs → FallBelow m xs
@@ -121,6 +121,7 @@ module _ {A : Type 0} where
       same : option_map (λ y. y.seq) (nth tag place xs) ≡ slice_get (reverse (tagged tag xs)) place → (c : Bool) → option_map (λ y. y.seq) (cond c (Some x) (nth tag place xs)) ≡ cond c (Some x.seq) (slice_get (reverse (tagged tag xs)) place)
       same ih true = refl
       same ih false = ih
+
       at : option_map (λ y. y.seq) (nth tag place xs) ≡ slice_get (reverse (tagged tag xs)) place → (b : Bool) → option_map (λ y. y.seq) (cond (b && eqb place (count tag xs)) (Some x) (nth tag place xs)) ≡ slice_get (reverse (cond b (x.seq ∷ tagged tag xs) (tagged tag xs))) place
       at ih true =
           same ih (eqb place (count tag xs))

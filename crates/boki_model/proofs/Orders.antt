@@ -1,8 +1,8 @@
 -- The ordered list: the newest-first list is the one in order, and it stays as shards grow.
-use Rattle.std.proofs.Common.{◌≡◌, ℕ, zero, suc, ◌+◌, ◌-◌, ◌<◌, ◌≤◌, min, List, [], ◌∷◌, ◌++◌, length, take, drop, reverse, append_assoc, append-nil, refl, sym, ap, ◌∙◌, arith}
+use Rattle.std.proofs.Common.{◌≡◌, ℕ, zero, suc, ◌+◌, ◌≤◌, List, [], ◌∷◌, ◌++◌, length, drop, reverse, append_assoc, append-nil, refl, sym, ap, ◌∙◌, arith}
 use Rattle.std.proofs.lemmas.List.{reverse-append, reverse-reverse, take-append-le, length_push}
 use mathlib.Core.List.{reverse-cons}
-use Rattle.boki_model.specs.Order.{first_count, other_counts, between, added, last_vector, order, added_in_order, in_order, places_from, places, ordered_places}
+use Rattle.boki_model.specs.Order.{first_count, other_counts, between, added, last_vector, order, added_in_order, in_order, places_from, places}
 use Rattle.boki_model.specs.OrderLaws.{AreAtMost, Grow, Have, add_to, OrderStays}
 
 module _ {A : Type 0} where

@@ -1,12 +1,10 @@
 -- Where ordered records stand: the place of a seqnum, and the seqnum of a place, entry by entry.
-use Rattle.std.proofs.Common.{◌≡◌, ◌⊎◌, inl, inr, ℕ, zero, suc, ◌+◌, ◌-◌, ◌<◌, ◌≤◌, min, Bool, true, false, cond, ◌&&◌, eqb, leb, List, [], ◌∷◌, ◌++◌, length, take, drop, reverse, Option, Some, None, option_and_then, slice_get, refl, sym, ap, ◌∙◌, subst, arith}
-use Rattle.std.proofs.lemmas.Bool.{eqb-true, eq-eqb, ne_eqb, leb-true, leb-false, le-leb, lt-leb, cases_lt, cases_eq}
+use Rattle.std.proofs.Common.{◌≡◌, ◌⊎◌, inl, inr, ℕ, zero, suc, ◌+◌, ◌-◌, ◌<◌, ◌≤◌, Bool, true, false, cond, ◌&&◌, eqb, List, [], ◌∷◌, ◌++◌, length, take, drop, reverse, Some, None, refl, sym, ap, ◌∙◌, arith}
+use Rattle.std.proofs.lemmas.Bool.{eqb-true, eq-eqb, ne_eqb, cases_lt}
 use Rattle.std.proofs.lemmas.Bool.Decides.{nat_tests}
-use Rattle.std.proofs.lemmas.List.{length-append, length-reverse, length-take, length-drop}
+use Rattle.std.proofs.lemmas.List.{length-append, length-take, length-drop}
 use mathlib.Core.List.{reverse-cons}
-use Rattle.boki_model.specs.Order.{first_count, other_counts, between, added, last_vector, order, places_from, places, ordered_places, at_seq, seq_in, seq_of, locate}
-use Rattle.boki_model.specs.OrderLaws.{AreAtMost, Grow, Have, local_record, record_at, TellEachOther}
-use Rattle.boki_model.proofs.Orders.{have_less, Fit, fit, length-places_from}
+use Rattle.boki_model.specs.Order.{between, places_from, at_seq, seq_in}
 
 -- What stands at a seqnum, in two lists joined.
 
@@ -44,6 +42,7 @@ seq_in_miss x l (p ∷ ps) ys none = at (seq_in_miss x l ps ys) (is_place x l p)
   where
     some_none : (q : ℕ) → Some q ≡ None → ⊥
     some_none q e = cc
+
     at : (seq_in x l ps ≡ None → seq_in x l (ps ++ ys) ≡ seq_in x l ys) → (t : Bool) → cond t (Some (suc (length ps))) (seq_in x l ps) ≡ None → cond t (Some (suc (length (ps ++ ys)))) (seq_in x l (ps ++ ys)) ≡ seq_in x l ys
     at ih true e = absurd (some_none (suc (length ps)) e)
     at ih false e = ih e
@@ -54,6 +53,7 @@ seq_in_hit x l q (p ∷ ps) ys found = at (seq_in_hit x l q ps ys) (is_place x l
   where
     some_some : (a c : ℕ) → Some a ≡ Some c → a ≡ c
     some_some a c e = cc
+
     at : (seq_in x l ps ≡ Some q → seq_in x l (ps ++ ys) ≡ Some (q + length ys)) → (t : Bool) → cond t (Some (suc (length ps))) (seq_in x l ps) ≡ Some q → cond t (Some (suc (length (ps ++ ys)))) (seq_in x l (ps ++ ys)) ≡ Some (q + length ys)
     at ih true e = ap Some (let f : suc (length (ps ++ ys)) ≡ q + length ys = omega (arith, length-append ps ys, some_some (suc (length ps)) q e) in f)
     at ih false e = ih e
@@ -64,6 +64,7 @@ seq_in_most x l q (p ∷ ps) found = at (seq_in_most x l q ps) (is_place x l p) 
   where
     some_some : (a c : ℕ) → Some a ≡ Some c → a ≡ c
     some_some a c e = cc
+
     at : (seq_in x l ps ≡ Some q → q ≤ length ps) → (t : Bool) → cond t (Some (suc (length ps))) (seq_in x l ps) ≡ Some q → q ≤ suc (length ps)
     at ih true e = omega (arith, some_some (suc (length ps)) q e)
     at ih false e = omega (arith, ih e)
@@ -75,8 +76,10 @@ seq_in_located x l q (p ∷ ps) found = at (seq_in_located x l q ps) (seq_in_mos
   where
     some_some : (a c : ℕ) → Some a ≡ Some c → a ≡ c
     some_some a c e = cc
+
     below : (seq_in x l ps ≡ Some q → at_seq q ps ≡ Some (x, l)) → (seq_in x l ps ≡ Some q → q ≤ length ps) → seq_in x l ps ≡ Some q → cond (eqb q (suc (length ps))) (Some p) (at_seq q ps) ≡ Some (x, l)
     below ih most e = let le = most e in rw (ne_eqb q (suc (length ps)) (λ f. omega arith)) (ih e)
+
     at : (seq_in x l ps ≡ Some q → at_seq q ps ≡ Some (x, l)) → (seq_in x l ps ≡ Some q → q ≤ length ps) → (t : Bool) → eqb x p.0 ≡ t → (u : Bool) → eqb l p.1 ≡ u → cond (t && u) (Some (suc (length ps))) (seq_in x l ps) ≡ Some q
         → cond (eqb q (suc (length ps))) (Some p) (at_seq q ps) ≡ Some (x, l)
     at ih most true e true f is =

@@ -1,6 +1,6 @@
 -- Positions of writes.
-use Rattle.std.proofs.Common.{◌≡◌, ◌⊎◌, inl, inr, ℕ, zero, suc, ◌<◌, ◌≤◌, Bool, true, false, cond, ◌&&◌, eqb, ltb, List, [], ◌∷◌, ◌++◌, Option, Some, None, option_map, bytes_eq, refl, sym, ap, ◌∙◌, subst, append_assoc, arith}
-use Rattle.std.proofs.lemmas.Bool.{eqb-true, eq-eqb, false_from_ne_true, and_from}
+use Rattle.std.proofs.Common.{◌≡◌, ◌⊎◌, inl, inr, ℕ, ◌<◌, ◌≤◌, Bool, true, false, cond, ◌&&◌, eqb, List, [], ◌∷◌, ◌++◌, Option, Some, None, option_map, bytes_eq, refl, sym, ap, ◌∙◌, subst, append_assoc, arith}
+use Rattle.std.proofs.lemmas.Bool.{eq-eqb, false_from_ne_true}
 use Rattle.std.proofs.lemmas.Slice.Eq.{bytes_eq-Decides}
 use Rattle.lb_base.specs.declared.value.Value.{Value}
 use Rattle.boki_types.specs.declared.body.Body.{Body}
@@ -8,8 +8,8 @@ use Rattle.boki_types.specs.declared.store.Name.{Name}
 use Rattle.boki_model.specs.Live.{Live}
 use Rattle.boki_model.specs.Maps.{get}
 use Rattle.boki_model.specs.LogLaws.{FallBelow}
-use Rattle.boki_model.specs.Writes.{Version, Store, Stored, Write, write_at, version, version_writes, logged_write, here_or_named, if_key, with, logged_writes, initial_writes, writes_of, is_below, later, last_below, last}
-use Rattle.boki_model.specs.WriteLaws.{IsFree, StandApart, AreNumbered, PositionsAreUnique, with_version, ChangesNoLast, LastWritesStay}
+use Rattle.boki_model.specs.Writes.{Version, Store, Stored, Write, write_at, version, version_writes, logged_write, here_or_named, if_key, with, logged_writes, initial_writes, writes_of, is_below, last}
+use Rattle.boki_model.specs.WriteLaws.{IsFree, StandApart, AreNumbered, with_version, ChangesNoLast}
 
 -- One further version.
 
@@ -80,9 +80,11 @@ logged_are key named n (x ∷ xs) fall = at (logged_are key named x.seq xs fall.
   where
     more : AreLogged x.seq (logged_writes key named xs) → AreLogged n (logged_writes key named xs)
     more h = logged_more x.seq n (logged_writes key named xs) (omega (arith, fall.1)) h
+
     put : AreLogged x.seq (logged_writes key named xs) → (o : Option Value) → AreLogged n (with (option_map (write_at x.seq 0) o) (logged_writes key named xs))
     put h None = more h
     put h (Some v) = (fall.0, fall.1, refl, more h)
+
     at : AreLogged x.seq (logged_writes key named xs) → (o : Option (List ℕ × (Name × Option Value))) → AreLogged n (with (if_key key x.seq named o) (logged_writes key named xs))
     at h None = more h
     at h (Some w) = elim (bytes_eq key w.0) as (λ t. AreLogged n (with (cond t (option_map (write_at x.seq 0) (here_or_named w.1.1 w.1.0 named)) None) (logged_writes key named xs)))
@@ -96,6 +98,7 @@ logged_apart key named n (x ∷ xs) us fall initial = at (logged_apart key named
     put h None = h
     put h (Some v) =
         (free_append x.seq 0 (logged_writes key named xs) us (free_above x.seq x.seq (logged_writes key named xs) (omega arith) (logged_are key named x.seq xs fall.2)) (free_initial x.seq 0 us (inl fall.0) initial), h)
+
     at : StandApart (logged_writes key named xs ++ us) → (o : Option (List ℕ × (Name × Option Value))) → StandApart (with (if_key key x.seq named o) (logged_writes key named xs) ++ us)
     at h None = h
     at h (Some w) = elim (bytes_eq key w.0) as (λ t. StandApart (with (cond t (option_map (write_at x.seq 0) (here_or_named w.1.1 w.1.0 named)) None) (logged_writes key named xs) ++ us))
@@ -107,6 +110,7 @@ version_free key c k (v ∷ vs) none = at (version_free key c k vs) (bytes_eq ke
   where
     none_some : (x : Value) → Some x ≡ None → ⊥
     none_some x e = cc
+
     at : (version key c k vs ≡ None → IsFree c k (version_writes key vs)) → (t u : Bool) → eqb c v.cursor ≡ u → (w : Bool) → eqb k v.k ≡ w → cond (t && u && w) (Some v.value) (version key c k vs) ≡ None
         → IsFree c k (cond t (write_at v.cursor v.k v.value ∷ version_writes key vs) (version_writes key vs))
     at ih true true e true f is = absurd (none_some v.value is)
@@ -119,15 +123,17 @@ versions_apart key [] n ws us numbered logged initial apart = apart
 versions_apart key (v ∷ vs) n ws us numbered logged initial apart = at (versions_apart key vs n ws us numbered.2 logged initial apart) (bytes_eq key v.key) refl
   where
     at : StandApart (version_writes key vs ++ (ws ++ us)) → (t : Bool) → bytes_eq key v.key ≡ t → StandApart (cond t (write_at v.cursor v.k v.value ∷ version_writes key vs) (version_writes key vs) ++ (ws ++ us))
-    at ih true e =
-        (free_append v.cursor v.k (version_writes key vs) (ws ++ us)
-            (version_free key v.cursor v.k vs (ap (λ q. version q v.cursor v.k vs) ((bytes_eq-Decides key v.key).0 e) ∙ numbered.1))
-            (free_append v.cursor v.k ws us (free_raised v.cursor v.k n ws numbered.0 logged) (free_initial v.cursor v.k us (inr numbered.0) initial)), ih)
+    at ih true e = (
+      free_append v.cursor v.k (version_writes key vs) (ws ++ us)
+          (version_free key v.cursor v.k vs (ap (λ q. version q v.cursor v.k vs) ((bytes_eq-Decides key v.key).0 e) ∙ numbered.1))
+          (free_append v.cursor v.k ws us (free_raised v.cursor v.k n ws numbered.0 logged) (free_initial v.cursor v.k us (inr numbered.0) initial)),
+      ih,
+    )
     at ih false e = ih
 
 pub positions_unique : (key : List ℕ) (store : Store) (n : ℕ) (view : List (Live Body)) → AreNumbered store.versions → FallBelow n view → StandApart (writes_of key store view)
 positions_unique key store n view numbered fall =
     subst StandApart (sym (append_assoc (version_writes key store.versions) (logged_writes key store.named view) (initial_writes key store.initial)))
     (versions_apart key store.versions n (logged_writes key store.named view) (initial_writes key store.initial) numbered
-        (logged_are key store.named n view fall) (initial_is key store.initial)
-        (logged_apart key store.named n view (initial_writes key store.initial) fall (initial_is key store.initial)))
+    (logged_are key store.named n view fall) (initial_is key store.initial)
+    (logged_apart key store.named n view (initial_writes key store.initial) fall (initial_is key store.initial)))

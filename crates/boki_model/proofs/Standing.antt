@@ -1,7 +1,7 @@
 -- What the ordered list has at a seqnum is the record of its place.
-use Rattle.std.proofs.Common.{◌≡◌, ℕ, zero, suc, ◌+◌, ◌-◌, ◌<◌, ◌≤◌, Bool, true, false, cond, eqb, List, [], ◌∷◌, ◌++◌, length, take, drop, reverse, Option, Some, None, option_and_then, slice_get, refl, sym, ap, ◌∙◌, subst, arith}
+use Rattle.std.proofs.Common.{◌≡◌, ℕ, zero, suc, Bool, true, false, cond, eqb, List, [], ◌∷◌, ◌++◌, length, take, drop, reverse, Some, option_and_then, slice_get, refl, sym, ap, ◌∙◌, subst}
 use mathlib.Core.List.{reverse-cons}
-use Rattle.boki_model.specs.Order.{first_count, other_counts, between, added, last_vector, order, places_from, places, ordered_places, at_seq, seq_of, locate}
+use Rattle.boki_model.specs.Order.{first_count, other_counts, between, added, last_vector, order, places_from, places, ordered_places, at_seq, locate}
 use Rattle.boki_model.specs.OrderLaws.{Grow, Have, local_record, record_at, TellEachOther}
 use Rattle.boki_model.proofs.Places.{seq_in_located}
 use Rattle.boki_model.proofs.EntryPlaces.{numbered}
@@ -61,10 +61,10 @@ module _ {A : Type 0} (shards : List (List A)) where
   stand_added (x ∷ xs) [] old new h = absurd h
   stand_added (x ∷ xs) (p ∷ ps) old new h =
       stand_append (added xs (other_counts old) (other_counts new)) (reverse (between (first_count old) (first_count new) x))
-          (added ps (other_counts old) (other_counts new)) (reverse (between (first_count old) (first_count new) p))
-          (stand_added xs ps (other_counts old) (other_counts new) h.1)
-          (stand_reverse (between (first_count old) (first_count new) x) (between (first_count old) (first_count new) p)
-              (stand_drop (first_count old) (take (first_count new) x) (take (first_count new) p) (stand_take (first_count new) x p h.0)))
+      (added ps (other_counts old) (other_counts new)) (reverse (between (first_count old) (first_count new) p))
+      (stand_added xs ps (other_counts old) (other_counts new) h.1)
+      (stand_reverse (between (first_count old) (first_count new) x) (between (first_count old) (first_count new) p)
+      (stand_drop (first_count old) (take (first_count new) x) (take (first_count new) p) (stand_take (first_count new) x p h.0)))
 
   stand_order : (xs : List (List A)) (ps : List (List (ℕ × ℕ))) (vs : List (List ℕ)) → AllStand xs ps → Stand (order xs vs) (order ps vs)
   stand_order xs ps [] h = tt

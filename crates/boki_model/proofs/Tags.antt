@@ -1,5 +1,5 @@
 -- Tags tell paths apart, and a path begins once.
-use Rattle.std.proofs.Common.{◌≡◌, ◌⊎◌, inl, inr, ℕ, zero, suc, ◌+◌, ◌*◌, ◌^◌, ◌<◌, ◌≤◌, Bool, true, false, cond, ◌&&◌, ◌||◌, eqb, ltb, List, [], ◌∷◌, length, get_or, Option, Some, None, bytes_eq, refl, sym, ap, ◌∙◌, subst, arith}
+use Rattle.std.proofs.Common.{◌≡◌, ℕ, zero, suc, ◌+◌, ◌*◌, ◌^◌, ◌<◌, ◌≤◌, Bool, true, false, cond, ◌&&◌, ltb, List, [], ◌∷◌, length, get_or, Option, refl, sym, ap, ◌∙◌, arith}
 use Rattle.std.proofs.lemmas.Bool.{eqb-true, eq-eqb, ltb-true, and_parts}
 use Rattle.std.proofs.lemmas.List.{get_or_past}
 use Rattle.std.proofs.lemmas.Slice.Eq.{bytes_eq-Decides}
@@ -118,8 +118,10 @@ one_more passes tag r x xs holds tags meet alone past = at (passes x.holds) refl
   where
     none : passes x.holds ≡ true → count tag xs ≡ 0
     none e = sym (eqb-true 0 (count tag xs) (sym (ap (λ c. meets c xs) (alone (ap passes (sym holds) ∙ e)).1) ∙ meet))
+
     has : passes x.holds ≡ true → has_tag tag x.tags ≡ true
     has e = ap (has_tag tag) tags ∙ (alone (ap passes (sym holds) ∙ e)).0
+
     at : (p : Bool) → passes x.holds ≡ p → (h : Bool) → has_tag tag x.tags ≡ h → AtMostOne passes tag (x ∷ xs)
     at true e true f = record { one = rw e (omega (arith, none e, past.tagged)); tagged = rw (e, f) (omega (arith, past.tagged)) }
     at true e false f = absurd (let h : ⊥ = cc (has e) in h)

@@ -1,6 +1,6 @@
 -- Reads by tag, of the live records that an engine sees; the newest stands first. Seqnums are counted from 1, and the places
 -- of a tag's records from 0.
-use Rattle.std.specs.Prelude.{ℕ, suc, ◌==◌, ◌&&◌, nat_le, nat_lt, min, max, Bool, cond, List, [], ◌∷◌, Option, Some, None, option_map}
+use Rattle.std.specs.Prelude.{ℕ, suc, ◌==◌, ◌&&◌, nat_le, nat_lt, min, max, cond, List, [], ◌∷◌, Option, Some, None, option_map}
 use Rattle.boki_model.specs.Live.{Live, has_tag, count}
 
 -- the seqnums of the records with the tag, the newest first

@@ -6,7 +6,7 @@ use Rattle.lb_base.specs.Path.{IsPath}
 use Rattle.boki_types.specs.declared.body.Body.{Body}
 use Rattle.boki_types.specs.declared.body.Body.TheVariants as b
 use Rattle.boki_model.specs.Live.{Entry, Live, live}
-use Rattle.boki_model.specs.Bodies.{call_tag, step_tag, tag_of, tags_of}
+use Rattle.boki_model.specs.Bodies.{call_tag, step_tag, tags_of}
 
 -- paths with the same tag are the same, and no call tag is a step tag
 pub record TagsTellPaths : Type 0 where
