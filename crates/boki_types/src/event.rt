@@ -1,4 +1,7 @@
+ghost use Rattle.std.specs.Prelude.{◌≡◌};
+
 use lb_base::{List, Mode, Path, Seqnum, Tag, Value, Words};
+use std::alloc::AllocError;
 
 /// An event of a plan. Engines, shards, replicas and attempts are numbered from 1; a local number counts a shard's records
 /// from 1; a function is named by its number in the program, from 0.
@@ -20,11 +23,15 @@ pub enum Event {
     /// The metalog orders what every replica has.
     Cut,
     /// The engine reads the log to its end.
-    Catch { engine: u32 },
+    Catch {
+        engine: u32,
+    },
     /// A cut, and then every engine catches up.
     Sync,
     /// The engine loses its view, its caches and its attempts.
-    Restart { engine: u32 },
+    Restart {
+        engine: u32,
+    },
     /// A new attempt of an invocation.
     Start {
         attempt: u32,
@@ -32,21 +39,38 @@ pub enum Event {
         engine: u32,
     },
     /// One step of an attempt.
-    Step { attempt: u32 },
+    Step {
+        attempt: u32,
+    },
     /// The attempt runs no more.
-    Kill { attempt: u32 },
+    Kill {
+        attempt: u32,
+    },
     /// The attempt forgets the record that it waits for.
-    Lose { attempt: u32 },
+    Lose {
+        attempt: u32,
+    },
     /// The store call of the attempt's next step is made, and its answer lost.
-    Miss { attempt: u32 },
+    Miss {
+        attempt: u32,
+    },
     /// A switch of the book to another mode, `R` or `W`, begins.
-    Switch { engine: u32, target: Mode },
+    Switch {
+        engine: u32,
+        target: Mode,
+    },
     /// The pending switch ends, where all invocations that began before it have.
-    EndSwitch { engine: u32 },
+    EndSwitch {
+        engine: u32,
+    },
     /// The engine appends the floor that it can vouch for.
-    Trim { engine: u32 },
+    Trim {
+        engine: u32,
+    },
     /// The object store drops what lies below the engine's floor.
-    Sweep { engine: u32 },
+    Sweep {
+        engine: u32,
+    },
     /// A user's record.
     Append {
         engine: u32,
@@ -73,7 +97,10 @@ pub enum Event {
         upto: Seqnum,
     },
     /// The last record of the tag.
-    Tail { engine: u32, tag: Tag },
+    Tail {
+        engine: u32,
+        tag: Tag,
+    },
     /// The records of the tag up to a seqnum are hidden.
     TrimTag {
         engine: u32,
@@ -93,7 +120,116 @@ pub enum Event {
         text: Words,
     },
     /// Gives the auxiliary data of a record.
-    GetAux { engine: u32, seq: Seqnum },
+    GetAux {
+        engine: u32,
+        seq: Seqnum,
+    },
     /// Reseeds the objects that disturb the run.
-    Seed { n: u64 },
+    Seed {
+        n: u64,
+    },
+}
+
+// Written out, so that a clone is told to be the same value.
+impl Clone for Event {
+    ghost is_clone = { λ event copy. copy ≡ event };
+
+    fn clone(&self) -> Result<Event, AllocError> {
+        match self {
+            Event::Submit {
+                engine,
+                request,
+                function,
+                args,
+            } => Ok(Event::Submit {
+                engine: *engine,
+                request: *request,
+                function: *function,
+                args: args.clone()?,
+            }),
+            Event::Copy { shard, replica, n } => Ok(Event::Copy {
+                shard: *shard,
+                replica: *replica,
+                n: *n,
+            }),
+            Event::Cut => Ok(Event::Cut),
+            Event::Catch { engine } => Ok(Event::Catch { engine: *engine }),
+            Event::Sync => Ok(Event::Sync),
+            Event::Restart { engine } => Ok(Event::Restart { engine: *engine }),
+            Event::Start {
+                attempt,
+                path,
+                engine,
+            } => Ok(Event::Start {
+                attempt: *attempt,
+                path: *path,
+                engine: *engine,
+            }),
+            Event::Step { attempt } => Ok(Event::Step { attempt: *attempt }),
+            Event::Kill { attempt } => Ok(Event::Kill { attempt: *attempt }),
+            Event::Lose { attempt } => Ok(Event::Lose { attempt: *attempt }),
+            Event::Miss { attempt } => Ok(Event::Miss { attempt: *attempt }),
+            Event::Switch { engine, target } => Ok(Event::Switch {
+                engine: *engine,
+                target: *target,
+            }),
+            Event::EndSwitch { engine } => Ok(Event::EndSwitch { engine: *engine }),
+            Event::Trim { engine } => Ok(Event::Trim { engine: *engine }),
+            Event::Sweep { engine } => Ok(Event::Sweep { engine: *engine }),
+            Event::Append { engine, tags, text } => Ok(Event::Append {
+                engine: *engine,
+                tags: tags.clone()?,
+                text: text.clone()?,
+            }),
+            Event::Cond {
+                engine,
+                place,
+                tags,
+                text,
+            } => Ok(Event::Cond {
+                engine: *engine,
+                place: *place,
+                tags: tags.clone()?,
+                text: text.clone()?,
+            }),
+            Event::Next { engine, tag, from } => Ok(Event::Next {
+                engine: *engine,
+                tag: *tag,
+                from: *from,
+            }),
+            Event::Prev { engine, tag, upto } => Ok(Event::Prev {
+                engine: *engine,
+                tag: *tag,
+                upto: *upto,
+            }),
+            Event::Tail { engine, tag } => Ok(Event::Tail {
+                engine: *engine,
+                tag: *tag,
+            }),
+            Event::TrimTag { engine, tag, upto } => Ok(Event::TrimTag {
+                engine: *engine,
+                tag: *tag,
+                upto: *upto,
+            }),
+            Event::Settled {
+                engine,
+                shard,
+                local,
+            } => Ok(Event::Settled {
+                engine: *engine,
+                shard: *shard,
+                local: *local,
+            }),
+            Event::SetAux { engine, seq, text } => Ok(Event::SetAux {
+                engine: *engine,
+                seq: *seq,
+                text: text.clone()?,
+            }),
+            Event::GetAux { engine, seq } => Ok(Event::GetAux {
+                engine: *engine,
+                seq: *seq,
+            }),
+            Event::Seed { n } => Ok(Event::Seed { n: *n }),
+        }
+    }
 }

@@ -32,3 +32,7 @@ child_path path ordinal = if is_ordinal ordinal && nat_lt (length path) 4 then S
 -- four numbers, those behind the path being 0
 abbrev pub padded : List ℕ → List ℕ
 padded path = take 4 (path ++ 0 ∷ 0 ∷ 0 ∷ 0 ∷ [])
+
+-- numbers as a path, where they are one
+abbrev pub path_of : List ℕ → Option (List ℕ)
+path_of numbers = if is_path numbers then Some numbers else None
