@@ -1,8 +1,8 @@
 #!/usr/bin/env python3
 """Makes the terms of crates/model_rows from the worked examples.
 
-Each examples/NAME.plan is a plan, whose first line is a comment that says what it shows, and examples/NAME.out is what
-a run of it writes. For each the script writes specs/NAME.antt, the plan, the lines and the report as terms, and the
+Each examples/NAME.plan with an examples/NAME.out is a plan, whose first line is a comment that says what it shows, and
+what a run of it writes. For each the script writes specs/NAME.antt, the plan, the lines and the report as terms, and the
 proof that they come out by computation; and it writes src/lib.rt and specs/Lib.antt. tools/terms.py reads the texts.
 Run it, and then `rt fmt` in crates/model_rows.
 """
@@ -100,7 +100,7 @@ def code_file(examples):
     write(CRATE / "src" / "lib.rt", head + uses + reexports + body)
 
 def main():
-    examples = [Example(source) for source in sorted((TOP / "examples").glob("*.plan"))]
+    examples = [Example(out.with_suffix(".plan")) for out in sorted((TOP / "examples").glob("*.out"))]
     texts = [f.text() for example in examples for f in example.functions]
     library = {f.name: f.text() for example in examples for f in example.functions if texts.count(f.text()) > 1}
     functions_file(library)

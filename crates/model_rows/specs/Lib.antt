@@ -17,6 +17,7 @@ pub mod ReadOfAVersion
 pub mod RepeatedVersion
 pub mod RestartedEngine
 pub mod Smallest
+pub mod StaleSwitchEnd
 pub mod Switch
 pub mod TrapKinds
 pub mod Traps

@@ -20,6 +20,7 @@ ghost use Rattle.model_rows.specs.ReadOfAVersion.{ReadOfAVersionRun};
 ghost use Rattle.model_rows.specs.RepeatedVersion.{RepeatedVersionRun};
 ghost use Rattle.model_rows.specs.RestartedEngine.{RestartedEngineRun};
 ghost use Rattle.model_rows.specs.Smallest.{SmallestRun};
+ghost use Rattle.model_rows.specs.StaleSwitchEnd.{StaleSwitchEndRun};
 ghost use Rattle.model_rows.specs.Switch.{SwitchRun};
 ghost use Rattle.model_rows.specs.TrapKinds.{TrapKindsRun};
 ghost use Rattle.model_rows.specs.Traps.{TrapsRun};
@@ -109,6 +110,11 @@ pub fn restarted_engine()
 /// The smallest run: one invocation writes an object, reads it and ends.
 pub fn smallest()
     ensures { SmallestRun }
+{}
+
+/// A record that was sent to end one switch doesn't end the next one early.
+pub fn stale_switch_end()
+    ensures { StaleSwitchEndRun }
 {}
 
 /// A switch from mode R to W waits for an invocation that began before it; between them the mode is T.
