@@ -1,5 +1,7 @@
 pub mod Shown
 pub mod Functions
+pub mod ByHand
+pub mod Branches
 pub mod Children
 pub mod Conditions
 pub mod LateWrite
@@ -16,6 +18,7 @@ pub mod RepeatedVersion
 pub mod RestartedEngine
 pub mod Smallest
 pub mod Switch
+pub mod TrapKinds
 pub mod Traps
 pub mod TwoAttempts
 pub mod TwoPops

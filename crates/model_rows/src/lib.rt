@@ -2,6 +2,9 @@
 //! as its contract that the plan of that name gives the lines and the report that stand beside it in `examples/`.
 #![tactic(auto)]
 
+mod by_hand;
+
+ghost use Rattle.model_rows.specs.Branches.{BranchesRun};
 ghost use Rattle.model_rows.specs.Children.{ChildrenRun};
 ghost use Rattle.model_rows.specs.Conditions.{ConditionsRun};
 ghost use Rattle.model_rows.specs.LateWrite.{LateWriteRun};
@@ -18,12 +21,20 @@ ghost use Rattle.model_rows.specs.RepeatedVersion.{RepeatedVersionRun};
 ghost use Rattle.model_rows.specs.RestartedEngine.{RestartedEngineRun};
 ghost use Rattle.model_rows.specs.Smallest.{SmallestRun};
 ghost use Rattle.model_rows.specs.Switch.{SwitchRun};
+ghost use Rattle.model_rows.specs.TrapKinds.{TrapKindsRun};
 ghost use Rattle.model_rows.specs.Traps.{TrapsRun};
 ghost use Rattle.model_rows.specs.TwoAttempts.{TwoAttemptsRun};
 ghost use Rattle.model_rows.specs.TwoPops.{TwoPopsRun};
 ghost use Rattle.model_rows.specs.TwoTransactions.{TwoTransactionsRun};
 ghost use Rattle.model_rows.specs.UnevenReplicas.{UnevenReplicasRun};
 ghost use Rattle.model_rows.specs.UnfinishedWriter.{UnfinishedWriterRun};
+
+pub use by_hand::{illegal_turns, known_tags};
+
+/// Loops, branches and operators: scripts that ask no operation.
+pub fn branches()
+    ensures { BranchesRun }
+{}
 
 /// A spawn, and two joins of the child.
 pub fn children()
@@ -103,6 +114,11 @@ pub fn smallest()
 /// A switch from mode R to W waits for an invocation that began before it; between them the mode is T.
 pub fn switch()
     ensures { SwitchRun }
+{}
+
+/// One trap of each other kind, and which comes first where two could.
+pub fn trap_kinds()
+    ensures { TrapKindsRun }
 {}
 
 /// Traps as results: an integer out of range, and a loop without end.
