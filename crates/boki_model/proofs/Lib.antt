@@ -1,0 +1,4 @@
+pub mod Logs
+pub mod Tags
+pub mod KeyMaps
+pub mod Positions
