@@ -75,7 +75,12 @@ fn event_line(
 }
 
 /// Does the events of a plan and writes the line of each.
-fn run_events<K: Sink>(alloc: Global, plan: &Plan, machine: &mut Machine, sink: &mut K) -> Result<(), PutFault>
+fn run_events<K: Sink>(
+    alloc: Global,
+    plan: &Plan,
+    machine: &mut Machine,
+    sink: &mut K,
+) -> Result<(), PutFault>
     ensures grows { Grows (K.held sink.old) (K.held sink.new) }
     ensures fault { IsErrOf result PutFault.Fault → Rose (K.faults sink.old) (K.faults sink.new) }
     ensures later { K.faults sink.old ≤ K.faults sink.new }
@@ -100,7 +105,12 @@ fn tell_lines<K: Sink>(lines: &[String], sink: &mut K) -> Result<(), PutFault>
 }
 
 /// Runs a plan on a machine, and writes its lines and its report.
-fn run_machine<K: Sink>(alloc: Global, plan: &Plan, machine: &mut Machine, sink: &mut K) -> Result<(), PutFault>
+fn run_machine<K: Sink>(
+    alloc: Global,
+    plan: &Plan,
+    machine: &mut Machine,
+    sink: &mut K,
+) -> Result<(), PutFault>
     ensures grows { Grows (K.held sink.old) (K.held sink.new) }
     ensures fault { IsErrOf result PutFault.Fault → Rose (K.faults sink.old) (K.faults sink.new) }
     ensures later { K.faults sink.old ≤ K.faults sink.new }
@@ -146,7 +156,12 @@ fn run_text<K: Sink>(alloc: Global, text: &[u8], sink: &mut K) -> Status
 /// only where that device failed in this call, and `Done` only once the source was read to its end. `Memory` comes where
 /// memory ran out, at any point. What the sink held before stays, and what was written stands behind it: under `Done`
 /// all that was due, under `WriteFault` and `Memory` a front of it, under `ReadFault` nothing.
-pub fn run_top<S: Source, K: Sink>(alloc: Global, words: &[String], source: &mut S, sink: &mut K) -> Status
+pub fn run_top<S: Source, K: Sink>(
+    alloc: Global,
+    words: &[String],
+    source: &mut S,
+    sink: &mut K,
+) -> Status
     // Other words: the usage line, but for a fault of the sink or want of memory. The source is left alone.
     ensures usage { is_run (map string_bytes words.now) ≡ false →
         Meets result usage (K.held sink.old) (K.held sink.new) × (result ≢ Status.ReadFault) × (source.new ≡ source.old) }

@@ -1,8 +1,6 @@
 ghost use Rattle.std.specs.Prelude.{◌≡◌, IfOk};
 
-use crate::event::Event;
 use crate::expr::Expr;
-use crate::plan::Item;
 use crate::program::{Function, Stmt};
 use crate::turn::Turn;
 use lb_base::{List, Memory, Outcome, Path, Value, Words};
@@ -19,6 +17,22 @@ pub(crate) fn copy_exprs(alloc: Global, items: &[Expr]) -> Result<List<Expr>, Me
     Ok(list)
 }
 
+/// A copy of a name with an expression.
+fn copy_name_and(alloc: Global, item: &(Words, Expr)) -> Result<(Words, Expr), Memory>
+    ensures { IfOk result (λ copy. copy ≡ item.now) }
+{
+    let name = item.0.clone()?;
+    Ok((name, item.1.copy(alloc)?))
+}
+
+/// A copy of two expressions.
+fn copy_pair(alloc: Global, item: &(Expr, Expr)) -> Result<(Expr, Expr), Memory>
+    ensures { IfOk result (λ copy. copy ≡ item.now) }
+{
+    let first = item.0.copy(alloc)?;
+    Ok((first, item.1.copy(alloc)?))
+}
+
 /// Copies of names with an expression each.
 pub(crate) fn copy_named(
     alloc: Global,
@@ -27,8 +41,8 @@ pub(crate) fn copy_named(
     ensures { IfOk result (λ list. list ≡ items.now) }
 {
     let mut list = List::new(alloc);
-    for (name, x) in items {
-        list.push((name.copy()?, x.copy(alloc)?))?;
+    for item in items {
+        list.push(copy_name_and(alloc, item)?)?;
     }
     Ok(list)
 }
@@ -41,8 +55,8 @@ pub(crate) fn copy_pairs(
     ensures { IfOk result (λ list. list ≡ items.now) }
 {
     let mut list = List::new(alloc);
-    for (x, y) in items {
-        list.push((x.copy(alloc)?, y.copy(alloc)?))?;
+    for item in items {
+        list.push(copy_pair(alloc, item)?)?;
     }
     Ok(list)
 }
@@ -67,13 +81,6 @@ pub(crate) fn copy_functions(alloc: Global, items: &[Function]) -> Result<List<F
         list.push(function.copy(alloc)?)?;
     }
     Ok(list)
-}
-
-/// Copies of events.
-pub(crate) fn clone_events(list: &List<Event>) -> Result<List<Event>, AllocError>
-    ensures { IfOk result (λ copy. copy ≡ list.now) }
-{
-    list.clone()
 }
 
 /// Copies of turns.
@@ -106,15 +113,4 @@ pub(crate) fn clone_queues(
     ensures { IfOk result (λ copy. copy ≡ list.now) }
 {
     list.clone()
-}
-
-/// Copies of the items of a plan.
-pub(crate) fn copy_items(alloc: Global, items: &[Item]) -> Result<List<Item>, Memory>
-    ensures { IfOk result (λ list. list ≡ items.now) }
-{
-    let mut list = List::new(alloc);
-    for item in items {
-        list.push(item.copy()?)?;
-    }
-    Ok(list)
 }

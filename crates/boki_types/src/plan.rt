@@ -1,10 +1,6 @@
-ghost use Rattle.std.specs.Prelude.{◌≡◌, IfOk};
-
-use crate::copies::{clone_events, clone_values, copy_items};
 use crate::event::Event;
 use crate::program::Program;
-use lb_base::{List, Memory, Mode, Value, Words};
-use std::alloc::Global;
+use lb_base::{List, Mode, Value, Words};
 
 /// The sizes of a cluster, its first mode, `R` or `W`, and the number of the first engine that spells short writes with
 /// their value, where there is one.
@@ -31,32 +27,4 @@ pub struct Plan {
     pub objects: List<(Words, Value)>,
     pub program: Program,
     pub items: List<Item>,
-}
-
-impl Item {
-    /// A copy, or `Memory` where there is no room for it.
-    pub fn copy(&self) -> Result<Item, Memory>
-        ensures { IfOk result (λ item. item ≡ self.now) }
-    {
-        match self {
-            Item::One(event) => Ok(Item::One(event.clone()?)),
-            Item::Repeat(n, events) => Ok(Item::Repeat(*n, clone_events(events)?)),
-        }
-    }
-}
-
-impl Plan {
-    /// A copy, or `Memory` where there is no room for it.
-    ///
-    /// It calls itself as deep as the program's expressions are.
-    pub fn copy(&self, alloc: Global) -> Result<Plan, Memory>
-        ensures { IfOk result (λ plan. plan ≡ self.now) }
-    {
-        Ok(Plan {
-            setup: self.setup,
-            objects: clone_values(&self.objects)?,
-            program: self.program.copy(alloc)?,
-            items: copy_items(alloc, self.items.as_slice())?,
-        })
-    }
 }

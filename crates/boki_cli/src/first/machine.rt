@@ -149,7 +149,12 @@ struct Attempt {
 
 impl Attempt {
     /// Does one step.
-    fn step(&mut self, alloc: Global, function: &Option<Function>, log: &mut Log) -> Result<StepLine, Memory> {
+    fn step(
+        &mut self,
+        alloc: Global,
+        function: &Option<Function>,
+        log: &mut Log,
+    ) -> Result<StepLine, Memory> {
         if self.over {
             return Ok(StepLine::Idle);
         }
@@ -198,7 +203,12 @@ impl Attempt {
     }
 
     /// Does what its script asks for, with nothing to adopt and nothing waiting.
-    fn act(&mut self, alloc: Global, function: &Function, log: &mut Log) -> Result<StepLine, Memory> {
+    fn act(
+        &mut self,
+        alloc: Global,
+        function: &Function,
+        log: &mut Log,
+    ) -> Result<StepLine, Memory> {
         let Some(frame) = &mut self.frame else {
             let sent = log.append(Record::Init)?;
             self.waiting = true;

@@ -99,7 +99,12 @@ impl Frame {
     }
 
     /// Answers the operation asked for, a read with its value, and runs up to the next one.
-    pub fn answer(&mut self, alloc: Global, function: &Function, value: Value) -> Result<(), Memory> {
+    pub fn answer(
+        &mut self,
+        alloc: Global,
+        function: &Function,
+        value: Value,
+    ) -> Result<(), Memory> {
         if let Ask::Read(_, variable) = &self.ask {
             set(&mut self.values, *variable, value);
         }

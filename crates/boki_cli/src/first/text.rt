@@ -365,10 +365,7 @@ impl<'a> Reader<'a> {
             return Err(Unread::NotBuilt);
         }
         self.started = true;
-        Ok(Event::Start(
-            number(attempt, 4096)?,
-            number(request, 1_048_575)?,
-        ))
+        Ok(Event::Start(number(attempt, 4096)?, number(request, 1_048_575)?))
     }
 
     fn submit(&mut self, request: &str, name: &str, tokens: &[Token]) -> Result<Event, Unread> {

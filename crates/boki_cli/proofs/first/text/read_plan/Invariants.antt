@@ -1,4 +1,4 @@
-use Rattle.std.proofs.Common.{length, ℕ, ◌≤◌}
+use Rattle.std.proofs.Common.{length, ◌≤◌}
 use Rattle.boki_cli.proofs.first.text.read_plan.Given as goal
 
 abbrev pub invariant-lines : goal.invariant-lines

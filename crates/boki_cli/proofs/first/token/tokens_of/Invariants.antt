@@ -1,4 +1,4 @@
-use Rattle.std.proofs.Common.{length, ℕ}
+use Rattle.std.proofs.Common.{length}
 use Rattle.boki_cli.proofs.first.token.tokens_of.Given as goal
 
 abbrev pub decreases-tokens : goal.decreases-tokens
