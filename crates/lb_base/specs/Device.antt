@@ -19,6 +19,7 @@ fails calls fail = list_any (λ n. n == one_more calls) fail
 abbrev pub next_len : SourceState → ℕ → ℕ
 next_len s room = min room (length s.left)
 
+-- what a call of take answers, at a piece of so many bytes
 abbrev pub take_answer : SourceState → ℕ → Taken
 take_answer s room = if fails s.calls s.fail then taken.Failed else taken.Bytes (next_len s room)
 
@@ -33,6 +34,7 @@ abbrev pub piece_after : SourceState → List ℕ → List ℕ
 piece_after s into =
     if fails s.calls s.fail then into else take (next_len s (length into)) s.left ++ drop (next_len s (length into)) into
 
+-- what a call of put answers, at a piece of so many bytes
 abbrev pub put_answer : SinkState → ℕ → Given
 put_answer s len = if fails s.calls s.fail then given.Failed else given.Bytes (min len s.most)
 

@@ -17,11 +17,13 @@ value_text (Int n) = signed_decimal n
 value_text (Text text) = quoted text
 value_text Nothing = codes "none"
 
+-- the letter of a mode
 abbrev pub mode_text : Mode → List ℕ
 mode_text mode.R = codes "R"
 mode_text mode.W = codes "W"
 mode_text mode.T = codes "T"
 
+-- the word of a trap
 abbrev pub trap_text : TrapKind → List ℕ
 trap_text trap.Overflow = codes "overflow"
 trap_text trap.Divide = codes "divide"

@@ -49,12 +49,14 @@ fn prints_values(rt: HostRuntime) -> Result<(), Fail> {
     let alloc = rt.alloc();
     assert_eq!(rt; print_int(alloc, -5)?.as_str(), "-5");
     assert_eq!(rt; print_value(alloc, &Value::Nothing)?.as_str(), "none");
-    let text = Value::Text(Words::from_text(alloc, "a\n")?);
+    let mut words = Words::from_text(alloc, "a")?;
+    words.push("\n")?;
+    let text = Value::Text(words);
     assert_eq!(rt;
         print_outcome(alloc, &Outcome::Good(text.clone()?))?.as_str(),
         "value \"a\\n\""
     );
-    assert_eq!(rt; text.clone()? == text, true);
+    assert!(rt; text.clone()? == text);
     assert_eq!(rt;
         print_outcome(alloc, &Outcome::Trap(TrapKind::Overflow))?.as_str(),
         "trap overflow"
@@ -78,6 +80,7 @@ fn bounds_and_orders_paths(rt: HostRuntime) -> Result<(), Fail> {
     assert_eq!(rt; deep.parts(), [1, 2, 4_095, 1].as_slice());
     assert_eq!(rt; deep.depth(), 4);
     assert_eq!(rt; deep.child(1), None);
+    assert_eq!(rt; Path::from_parts(&[1, 2, 4_095, 1]), Some(deep));
     let ten = Path::request(10).ok_or("request")?;
     assert!(rt; one < two && two < deep && deep < ten);
     assert_eq!(rt; print_path(rt.alloc(), deep)?.as_str(), "1.2.4095.1");
