@@ -3,11 +3,11 @@ use Rattle.std.specs.Prelude.{◌≡◌, ℕ, Bool, false, List, [], ◌∷◌, 
 use Rattle.std.specs.Fmt.{decimal}
 use Rattle.std.specs.Str.{bytes_eq}
 use Rattle.lb_base.specs.Outside.{Appends, AppendsFront}
-use Rattle.boki_cli.specs.declared.kind.Kind.{Kind}
-use Rattle.boki_cli.specs.declared.kind.Kind.TheVariants.{NotBuilt}
+use Rattle.boki_types.specs.declared.kind.Kind.{Kind}
+use Rattle.boki_types.specs.declared.kind.Kind.TheVariants.{NotBuilt}
 use Rattle.boki_cli.specs.declared.status.Status.{Status}
 use Rattle.boki_cli.specs.declared.status.Status.TheVariants.{Done, Refused, Usage, ReadFault, WriteFault, Memory}
-use Rattle.boki_cli.specs.Refusal.{kind_text}
+use Rattle.boki_types.specs.Kinds.{kind_text}
 
 -- the exit status of the process
 abbrev pub status_code : Status → ℕ

@@ -3,7 +3,6 @@
 
 mod edge;
 mod first;
-mod kind;
 mod status;
 #[cfg(test)]
 mod tests;

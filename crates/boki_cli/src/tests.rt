@@ -2,9 +2,9 @@
 
 ghost use Rattle.std.specs.Prelude.{◌≤◌};
 
-use crate::kind::Kind;
 use crate::status::Status;
 use crate::top::run_top;
+use boki_types::Kind;
 use lb_base::{MemSink, MemSource, SureSink, SureSource};
 use std::alloc::{AllocError, Global};
 use std::test::Fail;

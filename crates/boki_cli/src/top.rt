@@ -5,8 +5,8 @@ ghost use Rattle.lb_base.specs.Outside.{Rose};
 ghost use Rattle.boki_cli.specs.Due.{Meets, Wrote, Grows, is_run, refusal, text_limit, usage};
 
 use crate::first::{Event, Machine, Plan, Unread, print_line, read_plan, report_lines};
-use crate::kind::Kind;
 use crate::status::Status;
+use boki_types::Kind;
 use lb_base::{Memory, PutFault, ReadAll, Sink, Source, read_all, write_line};
 use std::alloc::Global;
 
