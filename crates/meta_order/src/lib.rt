@@ -1,13 +1,7 @@
-// A library with one function.
+//! The metalog, and with it the one order of the log.
 #![tactic(auto)]
 
-ghost use Rattle.std.specs.Prelude.{◌≡◌};
-ghost use Rattle.meta_order.specs.Echo.{echo_of};
+mod metalog;
+mod vectors;
 
-// The `ensures` clause is the contract: what `echo` returns is `echo_of` of its argument, a definition
-// in `specs/Echo.antt`, which a caller's clause can cite too.
-pub fn echo(x: usize) -> usize
-    ensures { result ≡ echo_of x }
-{
-    x
-}
+pub use metalog::Metalog;
