@@ -2,16 +2,15 @@
 -- step record of the path answers its operation, and the free operations between two step records answer by positions: in mode
 -- R a read answers the last write at or below the cursor, in mode W a write whose version is there is done. Every attempt of
 -- the invocation gets these answers and no others.
-use Rattle.std.specs.Prelude.{ℕ, zero, suc, ◌+◌, ◌-◌, ◌==◌, ◌&&◌, nat_le, Bool, true, false, cond, List, [], ◌∷◌, length, drop, Option, Some, None, unwrap_or, bytes_eq}
+use Rattle.std.specs.Prelude.{ℕ, zero, suc, ◌-◌, Bool, true, false, cond, List, [], ◌∷◌, length, drop, Option, Some, None, unwrap_or, bytes_eq}
 use Rattle.lb_base.specs.declared.value.Value.{Value}
 use Rattle.lb_base.specs.declared.value.Value.TheVariants.{Nothing}
 use Rattle.lb_base.specs.declared.value.Mode.{Mode}
-use Rattle.lb_base.specs.declared.value.Mode.TheVariants.{R, W, T}
+use Rattle.lb_base.specs.declared.value.Mode.TheVariants.{R, W}
 use Rattle.lb_base.specs.declared.value.Outcome.{Outcome}
 use Rattle.boki_types.specs.declared.body.Body.{Body}
 use Rattle.boki_types.specs.declared.body.Body.TheVariants as b
 use Rattle.boki_types.specs.declared.log.Call.{Call}
-use Rattle.boki_types.specs.declared.operation.Op.{Op}
 use Rattle.boki_types.specs.declared.operation.Op.TheVariants as o
 use Rattle.boki_types.specs.declared.operation.Ask.{Ask}
 use Rattle.boki_types.specs.declared.operation.Ask.TheVariants as k
@@ -26,7 +25,7 @@ use Rattle.boki_model.specs.Modes.{result_of, mode_behind}
 use Rattle.boki_model.specs.Writes.{Store, last, has_version}
 use Rattle.boki_model.specs.Script.{asked}
 use Rattle.boki_model.specs.Folds.{queues, front, commits, succeeds, stored, values_of}
-use Rattle.boki_machine.specs.Attempt.{next_index, call_of}
+use Rattle.boki_machine.specs.Attempt.{call_of}
 
 -- The state of an invocation at its last step record: whether its Init is there, its mode, its function and arguments, its
 -- place and cursor, the answers up to that record's own, the newest first, the begin of its open transaction, and its result.
@@ -43,7 +42,15 @@ pub record Point : Type 0 where
 
 abbrev pub unknown : Point
 unknown = record {
-  begun = false; mode = R; function = 0; args = []; place = 0; cursor = 0; answers = []; transaction = None; result = None
+  begun = false;
+  mode = R;
+  function = 0;
+  args = [];
+  place = 0;
+  cursor = 0;
+  answers = [];
+  transaction = None;
+  result = None;
 }
 
 abbrev pub asked_at : List Function → List ℕ → Point → List Answer → Option Ask
@@ -99,8 +106,10 @@ transaction_behind seq _ old = old
 -- an operation's record, with its index: the free operations before it are done, and then it is answered
 abbrev pub operated : List Function → Store → List (Live Body) → List ℕ → ℕ → Body → ℕ → Point → Point
 operated fs store past path seq body index p = record p {
-  place = suc p.place; cursor = seq; transaction = transaction_behind seq body p.transaction;
-  answers = and_answer (own_answer store past seq body) (more fs store past path p (index - suc (length p.answers)))
+  place = suc p.place;
+  cursor = seq;
+  transaction = transaction_behind seq body p.transaction;
+  answers = and_answer (own_answer store past seq body) (more fs store past path p (index - suc (length p.answers)));
 }
 
 abbrev pub function_of : List Function → Option Call → ℕ
@@ -113,17 +122,30 @@ args_of (Some c) = c.args
 
 abbrev pub initiated : Setup → List Function → List (Live Body) → ℕ → Option Call → Point
 initiated setup fs past seq call = record {
-  begun = true; mode = mode_behind setup.mode past; function = function_of fs call; args = args_of call;
-  place = 1; cursor = seq; answers = []; transaction = None; result = None
+  begun = true;
+  mode = mode_behind setup.mode past;
+  function = function_of fs call;
+  args = args_of call;
+  place = 1;
+  cursor = seq;
+  answers = [];
+  transaction = None;
+  result = None;
 }
 
-abbrev pub finished : ℕ → Outcome → Point → Point
-finished seq outcome p = record p { place = suc p.place; cursor = seq; result = Some outcome }
+-- the end, with its index: the free operations before it are done, and there is no further operation
+abbrev pub finished : List Function → Store → List (Live Body) → List ℕ → ℕ → Outcome → ℕ → Point → Point
+finished fs store past path seq outcome index p = record p {
+  place = suc p.place;
+  cursor = seq;
+  result = Some outcome;
+  answers = more fs store past path p (index - suc (length p.answers));
+}
 
 -- one step record of the path
 abbrev pub stepped : Setup → List Function → Store → List (Live Body) → List ℕ → ℕ → Body → ℕ → Point → Point
 stepped setup fs store past path seq (b.Init p) index d = initiated setup fs past seq (call_of path past)
-stepped setup fs store past path seq (b.Finish p i outcome) index d = finished seq outcome d
+stepped setup fs store past path seq (b.Finish p i outcome) index d = finished fs store past path seq outcome index d
 stepped setup fs store past path seq body index d = operated fs store past path seq body index d
 
 abbrev pub advanced : Setup → List Function → Store → List (Live Body) → List ℕ → Live Body → Option (List ℕ × ℕ) → Point → Point

@@ -1,6 +1,6 @@
 -- The report of a machine, over its whole ordered list; and that of an ideal state with its turns. Results stand in the order
 -- of paths, and objects, queues and store names in that of their bytes.
-use Rattle.std.specs.Prelude.{ℕ, suc, Bool, List, [], ◌∷◌, length, map, Option, Some, None, is_some}
+use Rattle.std.specs.Prelude.{ℕ, suc, List, [], ◌∷◌, length, Option, Some, None}
 use Rattle.lb_base.specs.declared.value.Value.{Value}
 use Rattle.lb_base.specs.declared.value.Outcome.{Outcome}
 use Rattle.boki_types.specs.declared.body.Body.{Body}
@@ -10,7 +10,7 @@ use Rattle.boki_types.specs.declared.turn.Turn.{Turn}
 use Rattle.boki_types.specs.declared.turn.Report.{Report}
 use Rattle.boki_model.specs.Maps.{get, put}
 use Rattle.boki_model.specs.Live.{Live}
-use Rattle.boki_model.specs.Writes.{Store, keys_below, last, with}
+use Rattle.boki_model.specs.Writes.{Store, keys_below, last}
 use Rattle.boki_model.specs.Folds.{queues, commits, stored}
 use Rattle.boki_machine.specs.Machine.{Machine, log, live_log}
 use Rattle.boki_machine.specs.Turns.{turns}
@@ -50,7 +50,7 @@ report fs m =
       results = results records;
       objects = objects (suc (length (log m))) m.store records;
       queues = queues records;
-      stores = stored (commits records)
+      stores = stored (commits records);
     }
 
 abbrev pub and_outcome : List ℕ → Option Outcome → List (List ℕ × Outcome) → List (List ℕ × Outcome)
@@ -63,5 +63,9 @@ ideal_results (x ∷ xs) = and_outcome x.0 x.1.result (ideal_results xs)
 
 abbrev pub ideal_report : List Turn → Ideal → Report
 ideal_report ts s = record {
-  turns = ts; results = ideal_results s.invocations; objects = s.objects; queues = s.queues; stores = s.names
+  turns = ts;
+  results = ideal_results s.invocations;
+  objects = s.objects;
+  queues = s.queues;
+  stores = s.names;
 }

@@ -1,10 +1,10 @@
 -- The step table: what one step of an attempt does, by the records that its engine sees. The first case that applies is taken.
-use Rattle.std.specs.Prelude.{ℕ, zero, suc, ◌-◌, ◌+◌, ◌==◌, ◌&&◌, ◌||◌, nat_le, nat_lt, Bool, true, false, cond, List, [], ◌∷◌, length, map, Option, Some, None, unwrap_or, is_some}
+use Rattle.std.specs.Prelude.{ℕ, zero, suc, ◌-◌, ◌==◌, ◌&&◌, ◌||◌, nat_le, nat_lt, Bool, true, false, cond, List, [], ◌∷◌, length, map, Option, Some, None, unwrap_or}
 use Rattle.std.specs.List.{list_any}
 use Rattle.lb_base.specs.declared.value.Value.{Value}
 use Rattle.lb_base.specs.declared.value.Value.TheVariants.{Int, Text, Nothing}
 use Rattle.lb_base.specs.declared.value.Mode.{Mode}
-use Rattle.lb_base.specs.declared.value.Mode.TheVariants.{R, W, T}
+use Rattle.lb_base.specs.declared.value.Mode.TheVariants.{R, W}
 use Rattle.lb_base.specs.declared.value.Outcome.{Outcome}
 use Rattle.lb_base.specs.declared.value.Seqnum.{Seqnum}
 use Rattle.boki_types.specs.declared.body.Body.{Body}
@@ -26,7 +26,6 @@ use Rattle.boki_types.specs.declared.operation.Answer.TheVariants as a
 use Rattle.boki_types.specs.declared.plan.Setup.{Setup}
 use Rattle.boki_types.specs.declared.program.Function.{Function}
 use Rattle.boki_types.specs.declared.store.Name.{Name}
-use Rattle.boki_types.specs.declared.store.Named.TheVariants as named
 use Rattle.boki_types.specs.declared.store.Put.{Put}
 use Rattle.boki_types.specs.declared.store.Put.TheVariants as put
 use Rattle.boki_types.specs.declared.store.Fenced.{Fenced}
@@ -36,7 +35,7 @@ use Rattle.boki_model.specs.Live.{Live, upto}
 use Rattle.boki_model.specs.Reads.{nth}
 use Rattle.boki_model.specs.Bodies.{step_tag, step_of, child}
 use Rattle.boki_model.specs.Modes.{result_of, mode_behind}
-use Rattle.boki_model.specs.Writes.{Store, read_free, read_fenced, after_fenced, put_at, after_put, named_put, after_named}
+use Rattle.boki_model.specs.Writes.{Store, read_free, read_fenced, after_fenced, put_at, after_put, after_named}
 use Rattle.boki_model.specs.Script.{asked}
 use Rattle.boki_model.specs.Folds.{queues, front, commits, stored, values_of}
 use Rattle.boki_machine.specs.Attempt.{Attempt, Move, moves, sends_record, adopts, answered_with, next_index, call_of}
@@ -145,7 +144,7 @@ logs_write true stored t store at key v = sends_write t store at key v (Some v)
 logs_write false true t store at key v = sends_write t store at key v None
 logs_write false false t store at key v =
     cond (nat_lt t.cursor store.floor) (gone t store)
-        (moves (record t { stored = true }) (after_named (name_for t) t.cursor v store) (l.Store key v))
+    (moves (record t { stored = true }) (after_named (name_for t) t.cursor v store) (l.Store key v))
 
 abbrev pub puts_free : Put → Attempt → Store → List ℕ → Value → Move
 puts_free put.Gone t store key v = gone t store
@@ -221,7 +220,7 @@ asked_by fs t = asked fs t.function t.args (length t.path) t.answers
 abbrev pub goes_on : Setup → List Function → Attempt → Store → List (Live Body) → Sent → Option Ask → Move
 goes_on setup fs t store view at ask =
     takes t store view (answers_to t ask (nth (step_tag t.path) t.place view))
-        (unless_waiting t.waiting t store (asks setup fs t store view at ask))
+    (unless_waiting t.waiting t store (asks setup fs t store view at ask))
 
 abbrev pub placed : Setup → List Function → Attempt → Store → List (Live Body) → Sent → Call → ℕ → Move
 placed setup fs t store view at call zero = begins setup fs t store view at call (nth (step_tag t.path) 0 view)

@@ -196,7 +196,7 @@ module _ {A : Type 0} (shards : List (List A)) where
       at (inr h) = h
 
   -- each place in the order is of a shard, from 1
-  seq_not_zero : (l : ℕ) (vectors : List (List ℕ)) → seq_of 0 l shards vectors ≡ None
+  pub seq_not_zero : (l : ℕ) (vectors : List (List ℕ)) → seq_of 0 l shards vectors ≡ None
   seq_not_zero l [] = refl
   seq_not_zero l (v ∷ vs) = seq_in_miss 0 l (added (places 0 shards) (last_vector vs) v) (ordered_places shards vs) (seq_before_added 0 l 0 shards (last_vector vs) v (omega arith)) ∙ seq_not_zero l vs
 

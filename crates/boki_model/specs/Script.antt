@@ -1,8 +1,8 @@
 -- What a script does: it runs until it asks an operation of its runtime, or ends. `asked` is what a function asks after a list
 -- of answers, the newest of which stands first: it is run from its start, and takes one answer for each operation.
-use Rattle.std.specs.Prelude.{ℕ, zero, suc, ◌+◌, ◌==◌, ◌&&◌, ◌||◌, nat_le, Bool, true, false, cond, List, [], ◌∷◌, ◌++◌, length, map, Option, Some, None, unwrap_or, option_map, option_and_then, is_some, Result, Ok, Err, pos}
+use Rattle.std.specs.Prelude.{ℕ, zero, suc, ◌==◌, ◌&&◌, ◌||◌, nat_le, Bool, cond, List, [], ◌∷◌, length, map, Option, Some, None, unwrap_or, option_map, option_and_then, Result, Ok, Err, pos}
 use Rattle.lb_base.specs.declared.value.Value.{Value}
-use Rattle.lb_base.specs.declared.value.Value.TheVariants.{Int, Text, Nothing}
+use Rattle.lb_base.specs.declared.value.Value.TheVariants.{Int, Nothing}
 use Rattle.lb_base.specs.declared.value.TrapKind.{TrapKind}
 use Rattle.lb_base.specs.declared.value.TrapKind.TheVariants as trap
 use Rattle.lb_base.specs.declared.value.Outcome.{Outcome}
@@ -104,7 +104,7 @@ inside (Some names) f = f names
 abbrev pub spawns : List Function → ℕ → List ℕ → List ℕ → List Stmt → State → List Value → Flow
 spawns fs depth x f lines t args =
     cond ((depth == 4) || (suc t.spawned == 4096)) (trapped trap.Spawn)
-        (asks (One x) lines t (o.Spawn (suc t.spawned) (unwrap_or (find f fs) 0) args))
+    (asks (One x) lines t (o.Spawn (suc t.spawned) (unwrap_or (find f fs) 0) args))
 
 abbrev pub joins : List ℕ → List Stmt → State → Value → Flow
 joins x lines t (Int (pos n)) = cond (nat_le 1 n && nat_le n t.spawned) (asks (One x) lines t (o.Join n)) (trapped trap.Join)

@@ -17,7 +17,7 @@ use Rattle.boki_types.specs.declared.store.Fenced.{Fenced}
 use Rattle.boki_types.specs.declared.store.Fenced.TheVariants as f
 use Rattle.boki_model.specs.Live.{Live}
 use Rattle.boki_model.specs.Reads.{or_else}
-use Rattle.boki_model.specs.Maps.{get, put, has}
+use Rattle.boki_model.specs.Maps.{get, put}
 
 pub record Stored : Type 0 where
   pub name : Name
@@ -201,7 +201,7 @@ puts_in key cursor k store =
 abbrev pub after_put : List ℕ → ℕ → ℕ → Value → Store → Store
 after_put key cursor k value store =
     cond (puts_in key cursor k store)
-        (record store { versions = record { key = key; cursor = cursor; k = k; value = value } ∷ store.versions }) store
+    (record store { versions = record { key = key; cursor = cursor; k = k; value = value } ∷ store.versions }) store
 
 -- a read below (c, k); `n` is the number that the floor is compared with
 abbrev pub found : Option Value → Fenced

@@ -1,11 +1,14 @@
+ghost use Rattle.std.specs.Prelude.{◌≡◌};
+
 use lb_base::{List, Mode, Outcome, Path, Value, Words};
+use std::alloc::AllocError;
 
 /// What a record of the log says.
 ///
 /// A *step record* is one of an invocation's own steps: all variants with a path but `Submit`. Its `index` is 1 for `Init`
 /// (which is not stored), the number of the operation, from 1, for an operation, and the number of operations plus 1 for
 /// `Finish`.
-#[derive(Clone, Debug, Drop)]
+#[derive(Debug, Drop)]
 pub enum Body {
     /// A request, a path of one number, and the function that it calls.
     Submit {
@@ -14,7 +17,9 @@ pub enum Body {
         args: List<Value>,
     },
     /// An invocation begins.
-    Init { path: Path },
+    Init {
+        path: Path,
+    },
     /// A marker: the invocation reads the object at this record.
     Read {
         path: Path,
@@ -77,19 +82,146 @@ pub enum Body {
         outcome: Outcome,
     },
     /// A switch of the book to the mode `R` or `W` begins.
-    SwitchBegin { target: Mode },
+    SwitchBegin {
+        target: Mode,
+    },
     /// The pending switch ends.
     SwitchEnd,
     /// Values that only invocations with an Init below the seqnum `w` need may be dropped.
-    Trim { w: u64 },
+    Trim {
+        w: u64,
+    },
     /// The records of the user tag `number` at or below `upto` are hidden from reads by that tag.
-    TrimTag { number: u64, upto: u64 },
+    TrimTag {
+        number: u64,
+        upto: u64,
+    },
     /// A user's bytes.
-    User { bytes: List<u8> },
+    User {
+        bytes: List<u8>,
+    },
     /// A marker: the invocation reads all these objects at this record.
     ReadGroup {
         path: Path,
         index: u64,
         keys: List<Words>,
     },
+}
+
+// Written out, so that a clone is told to be the same value.
+impl Clone for Body {
+    ghost is_clone = { λ body copy. copy ≡ body };
+
+    fn clone(&self) -> Result<Body, AllocError> {
+        match self {
+            Body::Submit {
+                path,
+                function,
+                args,
+            } => Ok(Body::Submit {
+                path: *path,
+                function: function.clone()?,
+                args: args.clone()?,
+            }),
+            Body::Init { path } => Ok(Body::Init { path: *path }),
+            Body::Read { path, index, key } => Ok(Body::Read {
+                path: *path,
+                index: *index,
+                key: key.clone()?,
+            }),
+            Body::Write {
+                path,
+                index,
+                place,
+                key,
+                value,
+            } => Ok(Body::Write {
+                path: *path,
+                index: *index,
+                place: *place,
+                key: key.clone()?,
+                value: value.clone()?,
+            }),
+            Body::Spawn {
+                path,
+                index,
+                ordinal,
+                function,
+                args,
+            } => Ok(Body::Spawn {
+                path: *path,
+                index: *index,
+                ordinal: *ordinal,
+                function: function.clone()?,
+                args: args.clone()?,
+            }),
+            Body::Join {
+                path,
+                index,
+                ordinal,
+            } => Ok(Body::Join {
+                path: *path,
+                index: *index,
+                ordinal: *ordinal,
+            }),
+            Body::Push {
+                path,
+                index,
+                queue,
+                value,
+            } => Ok(Body::Push {
+                path: *path,
+                index: *index,
+                queue: queue.clone()?,
+                value: value.clone()?,
+            }),
+            Body::Pop { path, index, queue } => Ok(Body::Pop {
+                path: *path,
+                index: *index,
+                queue: queue.clone()?,
+            }),
+            Body::TxnBegin { path, index, names } => Ok(Body::TxnBegin {
+                path: *path,
+                index: *index,
+                names: names.clone()?,
+            }),
+            Body::TxnCommit {
+                path,
+                index,
+                begin,
+                names,
+                writes,
+            } => Ok(Body::TxnCommit {
+                path: *path,
+                index: *index,
+                begin: *begin,
+                names: names.clone()?,
+                writes: writes.clone()?,
+            }),
+            Body::Finish {
+                path,
+                index,
+                outcome,
+            } => Ok(Body::Finish {
+                path: *path,
+                index: *index,
+                outcome: outcome.clone()?,
+            }),
+            Body::SwitchBegin { target } => Ok(Body::SwitchBegin { target: *target }),
+            Body::SwitchEnd => Ok(Body::SwitchEnd),
+            Body::Trim { w } => Ok(Body::Trim { w: *w }),
+            Body::TrimTag { number, upto } => Ok(Body::TrimTag {
+                number: *number,
+                upto: *upto,
+            }),
+            Body::User { bytes } => Ok(Body::User {
+                bytes: bytes.clone()?,
+            }),
+            Body::ReadGroup { path, index, keys } => Ok(Body::ReadGroup {
+                path: *path,
+                index: *index,
+                keys: keys.clone()?,
+            }),
+        }
+    }
 }

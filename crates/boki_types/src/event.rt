@@ -20,11 +20,15 @@ pub enum Event {
     /// The metalog orders what every replica has.
     Cut,
     /// The engine reads the log to its end.
-    Catch { engine: u32 },
+    Catch {
+        engine: u32,
+    },
     /// A cut, and then every engine catches up.
     Sync,
     /// The engine loses its view, its caches and its attempts.
-    Restart { engine: u32 },
+    Restart {
+        engine: u32,
+    },
     /// A new attempt of an invocation.
     Start {
         attempt: u32,
@@ -32,21 +36,38 @@ pub enum Event {
         engine: u32,
     },
     /// One step of an attempt.
-    Step { attempt: u32 },
+    Step {
+        attempt: u32,
+    },
     /// The attempt runs no more.
-    Kill { attempt: u32 },
+    Kill {
+        attempt: u32,
+    },
     /// The attempt forgets the record that it waits for.
-    Lose { attempt: u32 },
+    Lose {
+        attempt: u32,
+    },
     /// The store call of the attempt's next step is made, and its answer lost.
-    Miss { attempt: u32 },
+    Miss {
+        attempt: u32,
+    },
     /// A switch of the book to another mode, `R` or `W`, begins.
-    Switch { engine: u32, target: Mode },
+    Switch {
+        engine: u32,
+        target: Mode,
+    },
     /// The pending switch ends, where all invocations that began before it have.
-    EndSwitch { engine: u32 },
+    EndSwitch {
+        engine: u32,
+    },
     /// The engine appends the floor that it can vouch for.
-    Trim { engine: u32 },
+    Trim {
+        engine: u32,
+    },
     /// The object store drops what lies below the engine's floor.
-    Sweep { engine: u32 },
+    Sweep {
+        engine: u32,
+    },
     /// A user's record.
     Append {
         engine: u32,
@@ -73,7 +94,10 @@ pub enum Event {
         upto: Seqnum,
     },
     /// The last record of the tag.
-    Tail { engine: u32, tag: Tag },
+    Tail {
+        engine: u32,
+        tag: Tag,
+    },
     /// The records of the tag up to a seqnum are hidden.
     TrimTag {
         engine: u32,
@@ -93,7 +117,12 @@ pub enum Event {
         text: Words,
     },
     /// Gives the auxiliary data of a record.
-    GetAux { engine: u32, seq: Seqnum },
+    GetAux {
+        engine: u32,
+        seq: Seqnum,
+    },
     /// Reseeds the objects that disturb the run.
-    Seed { n: u64 },
+    Seed {
+        n: u64,
+    },
 }

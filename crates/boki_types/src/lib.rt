@@ -4,6 +4,7 @@
 #![tactic(auto)]
 
 mod body;
+mod copies;
 mod event;
 mod expr;
 mod kind;
@@ -19,7 +20,7 @@ pub use body::Body;
 pub use event::Event;
 pub use expr::{BinOp, Expr};
 pub use kind::Kind;
-pub use line::{FlowLine, Line, Life, Miss, StepLine};
+pub use line::{FlowLine, Life, Line, Miss, StepLine};
 pub use log::{Call, Cut, Ending, Sent, Settle};
 pub use operation::{Answer, Ask, Op};
 pub use plan::{Item, Plan, Setup};

@@ -1,5 +1,9 @@
+ghost use Rattle.std.specs.Prelude.{◌≡◌};
+
+use crate::copies::{clone_queues, clone_results, clone_turns, clone_values};
 use crate::plan::Plan;
 use lb_base::{List, Outcome, Path, Value, Words};
+use std::alloc::AllocError;
 
 /// A turn of the failure-free execution.
 #[derive(Clone, Debug, Drop, PartialEq, Eq)]
@@ -11,13 +15,18 @@ pub enum Turn {
         args: List<Value>,
     },
     /// The invocation runs its next `n` operations.
-    Go { path: Path, n: u64 },
+    Go {
+        path: Path,
+        n: u64,
+    },
     /// The invocation's script is done.
-    End { path: Path },
+    End {
+        path: Path,
+    },
 }
 
 /// What a run has come to: its turns in order, the results by path, and the objects, queues and store names by name.
-#[derive(Clone, Debug, Drop, PartialEq, Eq)]
+#[derive(Debug, Drop, PartialEq, Eq)]
 pub struct Report {
     pub turns: List<Turn>,
     pub results: List<(Path, Outcome)>,
@@ -31,4 +40,19 @@ pub struct Report {
 pub struct TurnText {
     pub plan: Plan,
     pub turns: List<(u64, Turn)>,
+}
+
+// Written out, so that a clone is told to be the same value.
+impl Clone for Report {
+    ghost is_clone = { λ report copy. copy ≡ report };
+
+    fn clone(&self) -> Result<Report, AllocError> {
+        Ok(Report {
+            turns: clone_turns(&self.turns)?,
+            results: clone_results(&self.results)?,
+            objects: clone_values(&self.objects)?,
+            queues: clone_queues(&self.queues)?,
+            stores: clone_values(&self.stores)?,
+        })
+    }
 }
