@@ -16,3 +16,4 @@ pub mod OperationTurns
 pub mod Transactions
 pub mod Calls
 pub mod Simulates
+pub mod Steps

@@ -1,3 +1,4 @@
 pub mod Exclusion
 pub mod Sound
 pub mod Runs
+pub mod Steps
