@@ -17,3 +17,5 @@ pub mod Transactions
 pub mod Calls
 pub mod Simulates
 pub mod Steps
+pub mod Ordered
+pub mod Reported

@@ -75,7 +75,7 @@ module _ (path : List ℕ) (ok : IsPath path) where
   own_step (b.User bytes) tags own range = user_tags tags own
   own_step (b.Submit p f args) tags own range = ap (has_tag (step_tag path)) own ∙ one_below (call_tag p) (let h = number_below p (and_parts _ _ (and_parts _ _ (and_parts _ _ (and_parts _ _ range).0).0).0).0 in omega (arith, h))
   own_step (b.Init p) tags own range = ap (has_tag (step_tag path)) own ∙ tagged_step p (tag_of 9 0 ∷ []) range (one_above (tag_number 9 0) (omega arith))
-  own_step (b.Read p i key) tags own range = ap (has_tag (step_tag path)) own ∙ tagged_step p ([]) (step_path p i (and_parts _ _ range).0) refl
+  own_step (b.Read p i key) tags own range = ap (has_tag (step_tag path)) own ∙ tagged_step p [] (step_path p i (and_parts _ _ range).0) refl
   own_step (b.Write p i place key value) tags own range = ap (has_tag (step_tag path)) own ∙ tagged_step p (tag_of 5 (name_number key) ∷ []) (step_path p i (and_parts _ _ (and_parts _ _ (and_parts _ _ range).0).0).0) (one_above (key_tag 5 key) (omega arith))
   own_step (b.Spawn p i ordinal f args) tags own range =
       let there : IsPath p = step_path p i (and_parts _ _ (and_parts _ _ (and_parts _ _ (and_parts _ _ (and_parts _ _ range).0).0).0).0).0 in
@@ -83,13 +83,13 @@ module _ (path : List ℕ) (ok : IsPath path) where
       let one : is_ordinal ordinal ≡ true = (and_parts _ _ (and_parts _ _ (and_parts _ _ (and_parts _ _ range).0).0).0).1 in
       let h = number_below (child p ordinal) (child_path p ordinal there few one) in
       ap (has_tag (step_tag path)) own ∙ tagged_step p (tag_of 1 (path_number (child p ordinal)) ∷ []) there (one_below (call_tag (child p ordinal)) (omega (arith, h)))
-  own_step (b.Join p i ordinal) tags own range = ap (has_tag (step_tag path)) own ∙ tagged_step p ([]) (step_path p i (and_parts _ _ range).0) refl
+  own_step (b.Join p i ordinal) tags own range = ap (has_tag (step_tag path)) own ∙ tagged_step p [] (step_path p i (and_parts _ _ range).0) refl
   own_step (b.Push p i queue value) tags own range = ap (has_tag (step_tag path)) own ∙ tagged_step p (tag_of 6 (name_number queue) ∷ []) (step_path p i (and_parts _ _ (and_parts _ _ range).0).0) (one_above (key_tag 6 queue) (omega arith))
   own_step (b.Pop p i queue) tags own range = ap (has_tag (step_tag path)) own ∙ tagged_step p (tag_of 6 (name_number queue) ∷ []) (step_path p i (and_parts _ _ range).0) (one_above (key_tag 6 queue) (omega arith))
-  own_step (b.TxnBegin p i names) tags own range = ap (has_tag (step_tag path)) own ∙ tagged_step p ([]) (step_path p i (and_parts _ _ range).0) refl
+  own_step (b.TxnBegin p i names) tags own range = ap (has_tag (step_tag path)) own ∙ tagged_step p [] (step_path p i (and_parts _ _ range).0) refl
   own_step (b.TxnCommit p i begin names writes) tags own range = ap (has_tag (step_tag path)) own ∙ tagged_step p (tag_of 7 0 ∷ []) (step_path p i (and_parts _ _ (and_parts _ _ (and_parts _ _ (and_parts _ _ range).0).0).0).0) (one_above (tag_number 7 0) (omega arith))
   own_step (b.Finish p i outcome) tags own range = ap (has_tag (step_tag path)) own ∙ tagged_step p (tag_of 9 0 ∷ []) (step_path p i (and_parts _ _ range).0) (one_above (tag_number 9 0) (omega arith))
-  own_step (b.ReadGroup p i keys) tags own range = ap (has_tag (step_tag path)) own ∙ tagged_step p ([]) (step_path p i (and_parts _ _ range).0) refl
+  own_step (b.ReadGroup p i keys) tags own range = ap (has_tag (step_tag path)) own ∙ tagged_step p [] (step_path p i (and_parts _ _ range).0) refl
   own_step (b.SwitchBegin target) tags own range = ap (has_tag (step_tag path)) own ∙ one_above (tag_number 3 0) (omega arith)
   own_step b.SwitchEnd tags own range = ap (has_tag (step_tag path)) own ∙ one_above (tag_number 3 0) (omega arith)
   own_step (b.Trim w) tags own range = ap (has_tag (step_tag path)) own ∙ one_above (tag_number 4 0) (omega arith)

@@ -27,3 +27,10 @@ ghost use Rattle.exactly_once.specs.Steps.{StepsInOrder};
 pub fn steps_in_order()
     ensures { StepsInOrder }
 {}
+
+ghost use Rattle.exactly_once.specs.Reported.{ReportsAgree};
+
+/// The report of a machine with a sound log is that of the failure-free execution of its turns.
+pub fn reports_agree()
+    ensures { ReportsAgree }
+{}
