@@ -23,3 +23,5 @@ pub mod Later
 pub mod MicroSteps
 pub mod SamePlace
 pub mod Orders
+pub mod Opening
+pub mod Ordinals

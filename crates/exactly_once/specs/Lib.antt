@@ -5,4 +5,5 @@ pub mod Reported
 pub mod Invariant
 pub mod MicroSteps
 pub mod Orders
+pub mod Opening
 pub mod Steps

@@ -1,0 +1,47 @@
+-- The invariant at the opening, and what it gives of reports.
+use Rattle.std.proofs.Common.{◌≡◌, ℕ, zero, suc, ◌≤◌, List, [], ◌∷◌, ◌++◌, length, map, refl, sym, ap, ◌∙◌, subst, arith}
+use Rattle.std.specs.Prelude.{replicate}
+use Rattle.std.specs.List.{AllByRecursion}
+use Rattle.boki_types.specs.declared.plan.Setup.{Setup}
+use Rattle.boki_types.specs.declared.program.Function.{Function}
+use Rattle.boki_model.specs.Writes.{Store}
+use Rattle.boki_machine.specs.Machine.{Machine, opening, log, live_log}
+use Rattle.boki_machine.specs.Turns.{turns}
+use Rattle.exactly_once.specs.Runs.{Runs}
+use Rattle.exactly_once.specs.Reported.{IsReported}
+use Rattle.exactly_once.specs.Invariant.{World, values, IsAsked, Holds}
+use Rattle.exactly_once.specs.Opening.{all_of, world_of, OpeningHolds, HoldingIsReported}
+use Rattle.exactly_once.proofs.Simulates.{sound_runs}
+use Rattle.exactly_once.proofs.Ordered.{IsOrdered, is_ordered}
+use Rattle.exactly_once.proofs.Reported.{objects_same, results_same}
+
+no_records : {A : Type 0} (n : ℕ) → all_of {A = A} (replicate n []) ≡ []
+no_records zero = refl
+no_records (suc n) = no_records n
+
+all_zero : (n : ℕ) → AllByRecursion (λ p. p ≤ 0) (replicate n 0)
+all_zero zero = tt
+all_zero (suc n) = (omega arith, all_zero n)
+
+pub opening_holds : OpeningHolds
+opening_holds setup fs objects = record {
+  sound = record { fit = tt; placed = tt };
+  fenced = tt;
+  sent = subst (AllByRecursion (IsAsked setup fs (values (opening setup objects).store) [] 0 [])) (sym (no_records setup.shards)) tt;
+  ordered = tt;
+  attempts = tt;
+  floor_is = omega arith;
+  positions = all_zero setup.engines;
+}
+
+pub holding_is_reported : HoldingIsReported
+holding_is_reported setup fs m holds =
+    let runs : Runs fs (values m.store) (suc (length (log m))) (live_log m) = sound_runs setup fs (values m.store) (log m) holds.sound in
+    let ordered : IsOrdered runs.state = is_ordered fs (turns fs m.store.versions (live_log m)) m.store.initial runs.state runs.defined in
+    let by_results = results_same (live_log m) runs.state ordered.invocations runs.results in
+    let by_objects = objects_same (suc (length (log m))) m.store (live_log m) runs.state.objects ordered.objects runs.objects in
+    record {
+      state = runs.state;
+      defined = runs.defined;
+      reported = λ i. record { turns = turns fs m.store.versions (live_log m); results = by_results i; objects = by_objects i; queues = runs.queues_are i; stores = runs.names i };
+    }

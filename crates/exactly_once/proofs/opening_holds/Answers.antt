@@ -1,0 +1,5 @@
+use Rattle.exactly_once.proofs.Opening.{opening_holds}
+use Rattle.exactly_once.proofs.opening_holds.Goals as goal
+
+pub returns : goal.returns
+returns c = opening_holds
