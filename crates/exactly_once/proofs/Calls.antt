@@ -23,9 +23,10 @@ use Rattle.boki_machine.specs.Decided.{Point, unknown, point, more, advanced, in
 use Rattle.boki_machine.specs.Turns.{until, turn_of, ahead_by}
 use Rattle.boki_machine.specs.Ideal.{Invocation, Ideal, invoked, running, unless_ended, submitted, with_invocation, go, ideal}
 use Rattle.boki_machine.specs.Ideal as ideal
+use Rattle.boki_model.proofs.KeyMaps.{get-put_same}
 use Rattle.exactly_once.specs.Sound.{Reaches, Asks, MaySubmit, MayBegin, frees_to, standing_at, MayStand, StandAt, AllFit}
 use Rattle.exactly_once.proofs.Lives.{Under}
-use Rattle.exactly_once.proofs.Maps.{same_itself, get_here, get_other, keys_cases}
+use Rattle.exactly_once.proofs.Maps.{same_itself, get_other, keys_cases}
 use Rattle.exactly_once.proofs.Positions.{Numbered}
 use Rattle.exactly_once.proofs.Stages.{stage_before, stage_other, stage_end}
 use Rattle.exactly_once.proofs.Points.{stands, cursor_within, unbegun, uncalled, is_called, still_called, IsCalled}
@@ -99,7 +100,7 @@ module _ (setup : Setup) (fs : List Function) (store : Store) where
           objects = objects_quiet submission xs m is_seq under fit.1 s.objects (λ key. refl) agrees.objects;
           queues_are = agrees.queues_are;
           names_are = agrees.names_are;
-          invocations = by_key p (λ q. expected setup fs store (get q ahead) (submission ∷ xs) q) (put p new_request s.invocations) (get_here p new_request s.invocations ∙ sym request_is) submit_other;
+          invocations = by_key p (λ q. expected setup fs store (get q ahead) (submission ∷ xs) q) (put p new_request s.invocations) (get-put_same p new_request s.invocations ∙ sym request_is) submit_other;
         };
       }
 
@@ -197,7 +198,7 @@ module _ (setup : Setup) (fs : List Function) (store : Store) where
           objects = objects_quiet finish xs m is_seq under no_version s.objects (λ key. refl) agrees.objects;
           queues_are = agrees.queues_are;
           names_are = agrees.names_are;
-          invocations = by_key p (λ q. expected setup fs store (get q ahead) (finish ∷ xs) q) (put p ended_at s.invocations) (get_here p ended_at s.invocations ∙ sym after_end)
+          invocations = by_key p (λ q. expected setup fs store (get q ahead) (finish ∷ xs) q) (put p ended_at s.invocations) (get-put_same p ended_at s.invocations ∙ sym after_end)
               (others_put p (λ q. expected setup fs store (get q ahead) (finish ∷ xs) q) ended_at s.invocations (others_kept setup fs store finish xs p i refl m is_seq under fit ahead s agrees (λ q e. refl) refl));
         };
       }

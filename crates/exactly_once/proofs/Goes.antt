@@ -13,10 +13,11 @@ use Rattle.boki_types.specs.declared.program.Function.{Function}
 use Rattle.boki_model.specs.Live.{Live}
 use Rattle.boki_model.specs.Maps.{get, put}
 use Rattle.boki_model.specs.Writes.{Store, last}
+use Rattle.boki_model.proofs.KeyMaps.{get-put_same}
 use Rattle.boki_machine.specs.Decided.{or_none, values_below}
 use Rattle.boki_machine.specs.Ideal.{Invocation, Ideal, running, unless_ended, one, go, asked_by}
 use Rattle.boki_machine.specs.Ideal as ideal
-use Rattle.exactly_once.proofs.Maps.{get-put, get_here, get_other, keys_cases, same_itself}
+use Rattle.exactly_once.proofs.Maps.{get-put, get_other, keys_cases, same_itself}
 
 -- The objects are the last writes below a position.
 abbrev pub AreLast : Store → List (Live Body) → ℕ → ℕ → List (List ℕ × Value) → Type 0
@@ -94,7 +95,7 @@ module _ (fs : List Function) (store : Store) (records : List (Live Body)) (p : 
     state = ideal.answers p i answer so_far.state;
     defined = go_more s0 n i c k so_far unended ∙ does;
     is = record {
-      here = get_here p (answering i answer) so_far.state.invocations;
+      here = get-put_same p (answering i answer) so_far.state.invocations;
       others_are = others_put p others (answering i answer) so_far.state.invocations so_far.is.others_are;
       objects = so_far.is.objects;
       queues_are = so_far.is.queues_are;
@@ -111,7 +112,7 @@ module _ (fs : List Function) (store : Store) (records : List (Live Body)) (p : 
   -- a write at the position
   pub put_last : (c k : ℕ) (key : List ℕ) (value : Value) (objects : List (List ℕ × Value)) → AreLast store records c k objects → last key c (suc k) store records ≡ Some value → ((q : List ℕ) → bytes_eq q key ≡ false → last q c k store records ≡ last q c (suc k) store records) → AreLast store records c (suc k) (put key value objects)
   put_last c k key value objects are own other q =
-      ⊎_elim (λ same. subst (λ q. get q (put key value objects) ≡ last q c (suc k) store records) (sym same) (get_here key value objects ∙ sym own))
+      ⊎_elim (λ same. subst (λ q. get q (put key value objects) ≡ last q c (suc k) store records) (sym same) (get-put_same key value objects ∙ sym own))
       (λ e. get_other q key value objects e ∙ are q ∙ other q e) (keys_cases q key)
 
   pub go_write : (s0 : Ideal) (n : ℕ) (i : Invocation) (c k : ℕ) (key : List ℕ) (value : Value) → Gone s0 n i c k → i.result ≡ None → asked_by fs p i ≡ Some (asks.Op (o.Write key value)) → last key c (suc k) store records ≡ Some value → ((q : List ℕ) → bytes_eq q key ≡ false → last q c k store records ≡ last q c (suc k) store records) → Gone s0 (suc n) (answering i a.Done) c (suc k)
@@ -119,7 +120,7 @@ module _ (fs : List Function) (store : Store) (records : List (Live Body)) (p : 
     state = ideal.answers p i a.Done (record (so_far.state) { objects = put key value so_far.state.objects });
     defined = go_more s0 n i c k so_far unended ∙ ap (ideal.operated p i so_far.state) asked;
     is = record {
-      here = get_here p (answering i a.Done) so_far.state.invocations;
+      here = get-put_same p (answering i a.Done) so_far.state.invocations;
       others_are = others_put p others (answering i a.Done) so_far.state.invocations so_far.is.others_are;
       objects = put_last c k key value so_far.state.objects so_far.is.objects own other;
       queues_are = so_far.is.queues_are;

@@ -22,6 +22,7 @@ pub mod Reported
 pub mod Later
 pub mod MicroSteps
 pub mod SamePlace
+pub mod Ordinals
+pub mod Children
 pub mod Orders
 pub mod Opening
-pub mod Ordinals

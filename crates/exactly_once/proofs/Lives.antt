@@ -2,6 +2,8 @@
 use Rattle.std.proofs.Common.{◌≡◌, ⊎_elim, ℕ, suc, ◌<◌, ◌≤◌, Bool, true, false, cond, eqb, List, [], ◌∷◌, length, Some, refl, sym, ap, ◌∙◌, subst, arith, ◌-◌}
 use Rattle.std.proofs.lemmas.Bool.{eqb-true, le-leb, lt-leb}
 use Rattle.boki_model.specs.Live.{Entry, Live, meets, joined, live, upto}
+use Rattle.boki_model.specs.LogLaws.{FallBelow}
+use Rattle.boki_model.proofs.Logs.{fall_more, live_falls, upto_skip, upto_all}
 use Rattle.exactly_once.specs.Exclusion.{held_at}
 use Rattle.exactly_once.proofs.Tails.{Tail, here, there, tail_cases}
 
@@ -15,24 +17,19 @@ module _ {A : Type 0} where
   under_more n m [] le under = tt
   under_more n m (x ∷ xs) le under = (under.0, under.1, omega (arith, under.2), under.3)
 
-  pub joined_under : (n : ℕ) (r : Entry A) (xs : List (Live A)) → Under n xs → Under (suc n) (joined (suc n) r xs)
-  joined_under n r xs under =
-      elim (meets r.condition xs) as (λ b. Under (suc n) (cond b (record { seq = suc n; tags = r.tags; holds = r.holds } ∷ xs) xs))
-      [ true ↦ (n, refl, omega arith, under) | false ↦ under_more n (suc n) xs (omega arith) under ]
+  under_falls : (n : ℕ) (xs : List (Live A)) → Under n xs → FallBelow (suc n) xs
+  under_falls n [] under = tt
+  under_falls n (x ∷ xs) under = (omega (arith, under.1), omega (arith, under.1, under.2), fall_more (suc under.0) x.seq xs (omega (arith, under.1)) (under_falls under.0 xs under.3))
+
+  falls_under : (n m : ℕ) (xs : List (Live A)) → n ≡ suc m → FallBelow n xs → Under m xs
+  falls_under n m [] e fall = tt
+  falls_under n m (x ∷ xs) e fall = (x.seq - 1, omega (arith, fall.0), omega (arith, fall.0, fall.1), falls_under x.seq (x.seq - 1) xs (omega (arith, fall.0)) fall.2)
 
   pub live_under : (log : List (Entry A)) → Under (length log) (live log)
-  live_under [] = tt
-  live_under (r ∷ log) = joined_under (length log) r (live log) (live_under log)
+  live_under log = falls_under (suc (length log)) (length log) (live log) refl (live_falls log)
 
-  pub upto_skip : (p : ℕ) (x : Live A) (xs : List (Live A)) → p < x.seq → upto p (x ∷ xs) ≡ upto p xs
-  upto_skip p x xs lt = rw (lt-leb x.seq p lt)
-
-  pub upto_here : (p : ℕ) (x : Live A) (xs : List (Live A)) → x.seq ≤ p → upto p (x ∷ xs) ≡ x ∷ xs
-  upto_here p x xs le = rw (le-leb x.seq p le)
-
-  pub upto_all : (n p : ℕ) (xs : List (Live A)) → Under n xs → n ≤ p → upto p xs ≡ xs
-  upto_all n p [] under le = refl
-  upto_all n p (x ∷ xs) under le = upto_here p x xs (omega (arith, under.1, under.2, le))
+  upto_whole : (n p : ℕ) (xs : List (Live A)) → Under n xs → n ≤ p → upto p xs ≡ xs
+  upto_whole n p xs under le = upto_all (suc n) p xs (under_falls n xs under) (omega (arith, le))
 
   -- the live record at a seqnum, and what lies behind it
   pub record IsAt (n seq : ℕ) (xs : List (Live A)) (holds : A) : Type 0 where
@@ -49,7 +46,7 @@ module _ {A : Type 0} where
     record_there = x;
     behind = xs;
     tail = here;
-    below = upto_skip (x.seq - 1) x xs (omega (arith, under.1)) ∙ upto_all under.0 (x.seq - 1) xs under.3 (omega (arith, under.1));
+    below = upto_skip (x.seq - 1) x xs (omega (arith, under.1)) ∙ upto_whole under.0 (x.seq - 1) xs under.3 (omega (arith, under.1));
     seq_is = refl;
     within = omega (arith, under.1, under.2);
     holds_is = refl;

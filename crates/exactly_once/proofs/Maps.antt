@@ -33,9 +33,6 @@ module _ {V : Type 0} where
   pub get-put : (q k : List ℕ) (v : V) (m : List (List ℕ × V)) → get q (put k v m) ≡ cond (bytes_eq q k) (Some v) (get q m)
   get-put q k v m = find-put key_order nat_list_cmp_total q k v m ∙ ap (λ b. cond b (Some v) (get q m)) (is_eq-slice_cmp q k)
 
-  pub get_here : (k : List ℕ) (v : V) (m : List (List ℕ × V)) → get k (put k v m) ≡ Some v
-  get_here k v m = get-put k k v m ∙ ap (λ b. cond b (Some v) (get k m)) (same_itself k)
-
   pub get_other : (q k : List ℕ) (v : V) (m : List (List ℕ × V)) → bytes_eq q k ≡ false → get q (put k v m) ≡ get q m
   get_other q k v m e = get-put q k v m ∙ ap (λ b. cond b (Some v) (get q m)) e
 

@@ -26,9 +26,10 @@ use Rattle.boki_machine.specs.Decided.{Point, unknown, or_none, values_below, fu
 use Rattle.boki_machine.specs.Turns.{until}
 use Rattle.boki_machine.specs.Ideal.{Invocation, Ideal, invoked}
 use Rattle.boki_machine.specs.Ideal as ideal
+use Rattle.boki_model.proofs.KeyMaps.{get-put_same}
 use Rattle.exactly_once.specs.Sound.{Reaches, Asks, MayWrite, MaySpawn, MayJoin, frees_to, AllFit}
 use Rattle.exactly_once.proofs.Lives.{Under}
-use Rattle.exactly_once.proofs.Maps.{same_itself, get_here, get_other, keys_cases, other_way}
+use Rattle.exactly_once.proofs.Maps.{same_itself, get_other, keys_cases, other_way}
 use Rattle.exactly_once.proofs.Stages.{stage_before, stage_other, stage_write}
 use Rattle.exactly_once.proofs.Points.{stands, uncalled, is_called, result_is, IsCalled}
 use Rattle.exactly_once.proofs.Frees.{on}
@@ -67,7 +68,7 @@ module _ (setup : Setup) (fs : List Function) (store : Store) (seq : ℕ) (tags 
         → IsState fs store (holding body ∷ xs) p others_now (queues (holding body ∷ xs)) (stored (commits (holding body ∷ xs)))
         (record own_of { answers = answer ∷ own_of.answers }) seq 1 (ideal.answers p own_of answer s')
     answered_state answer s' same no_call cs objects queues_are names_are = record {
-      here = get_here p (record own_of { answers = answer ∷ own_of.answers }) s'.invocations;
+      here = get-put_same p (record own_of { answers = answer ∷ own_of.answers }) s'.invocations;
       others_are = others_put p others_now (record own_of { answers = answer ∷ own_of.answers }) s'.invocations
           (subst (OthersAre p others_now) (sym same) (others_kept setup fs store (holding body) xs p i step m is_seq under fit ahead s agrees no_call cs));
       objects = objects;
@@ -179,7 +180,7 @@ module _ (setup : Setup) (fs : List Function) (store : Store) (seq : ℕ) (tags 
         at : (q ≡ child p ordinal) ⊎ (bytes_eq q (child p ordinal) ≡ false) → get q (put (child p ordinal) (invoked may_spawn.function args) before) ≡ expected setup fs store (get q ahead) (holding (b.Spawn p i ordinal name args) ∷ xs) q
         at (inl same) =
             subst (λ q. get q (put (child p ordinal) (invoked may_spawn.function args) before) ≡ expected setup fs store (get q ahead) (holding (b.Spawn p i ordinal name args) ∷ xs) q) (sym same)
-            (get_here (child p ordinal) (invoked may_spawn.function args) before ∙ sym child_is)
+            (get-put_same (child p ordinal) (invoked may_spawn.function args) before ∙ sym child_is)
         at (inr f) =
             get_other q (child p ordinal) (invoked may_spawn.function args) before f ∙ same_others q e
             ∙ before_other setup fs store (holding (b.Spawn p i ordinal name args)) xs p i refl m is_seq under fit ahead s agrees q e
@@ -191,7 +192,7 @@ module _ (setup : Setup) (fs : List Function) (store : Store) (seq : ℕ) (tags 
         (ideal.with_invocation (child p ordinal) (invoked may_spawn.function args) (ideal.answers p own_spawned (a.Spawned ordinal) s)) refl
         (record {
           here = get_other p (child p ordinal) (invoked may_spawn.function args) (put p (record own_spawned { answers = a.Spawned ordinal ∷ own_spawned.answers }) s.invocations) not_child
-              ∙ get_here p (record own_spawned { answers = a.Spawned ordinal ∷ own_spawned.answers }) s.invocations;
+              ∙ get-put_same p (record own_spawned { answers = a.Spawned ordinal ∷ own_spawned.answers }) s.invocations;
           others_are = spawn_others (put p (record own_spawned { answers = a.Spawned ordinal ∷ own_spawned.answers }) s.invocations) (others_put p (λ q. get q s.invocations) (record own_spawned { answers = a.Spawned ordinal ∷ own_spawned.answers }) s.invocations (λ q e. refl));
           objects = objects_kept setup fs store (holding (b.Spawn p i ordinal name args)) xs p i refl m is_seq under fit ahead s agrees (λ key. refl);
           queues_are = agrees.queues_are;

@@ -18,9 +18,10 @@ use Rattle.boki_machine.specs.Decided.{Point, asked_at, own_answer, and_answer, 
 use Rattle.boki_machine.specs.Turns.{until}
 use Rattle.boki_machine.specs.Ideal.{Invocation, Ideal, asked_by}
 use Rattle.boki_machine.specs.Ideal as ideal
+use Rattle.boki_model.proofs.KeyMaps.{get-put_same}
 use Rattle.exactly_once.specs.Sound.{Reaches, Asks, frees_to, standing_at, MayStand, StandAt, AllFit}
 use Rattle.exactly_once.proofs.Lives.{Under}
-use Rattle.exactly_once.proofs.Maps.{same_itself, get_here, get_other}
+use Rattle.exactly_once.proofs.Maps.{same_itself, get_other}
 use Rattle.exactly_once.proofs.Positions.{Numbered}
 use Rattle.exactly_once.proofs.Stages.{stage_before, stage_other}
 use Rattle.exactly_once.proofs.Points.{stands, cursor_within}
@@ -69,7 +70,7 @@ module _ (setup : Setup) (fs : List Function) (store : Store) (x : Live Body) (x
 
       pub before_own : get p s.invocations ≡ Some at_operation
       before_own =
-          agrees.invocations p ∙ ap (λ a. expected setup fs store a xs p) (get_here p i ahead)
+          agrees.invocations p ∙ ap (λ a. expected setup fs store a xs p) (get-put_same p i ahead)
           ∙ look_running setup fs store (Some i) xs p (stands setup fs store p xs) refl fit.2 reaches.begun reaches.unended
 
       -- the operation, and then the free ones

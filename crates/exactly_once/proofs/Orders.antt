@@ -25,11 +25,11 @@ use Rattle.boki_model.specs.TagLaws.{first_of}
 use Rattle.boki_model.specs.Writes.{Store, Version, Raised}
 use Rattle.boki_machine.specs.Attempt.{call_in, call_of}
 use Rattle.boki_machine.specs.Decided.{Point, point}
-use Rattle.exactly_once.specs.Sound.{Asks, MaySubmit, MayBegin, MayWrite, MaySpawn, MayJoin, MayCommit, Fits, MayStand, StandAt, standing_at, AllFit, IsSound}
+use Rattle.exactly_once.specs.Sound.{Asks, MaySubmit, MayBegin, MayWrite, MaySpawn, MayJoin, MayCommit, Fits, MayStand, StandAt, frees_to, standing_at, AllFit, IsSound}
 use Rattle.exactly_once.specs.Steps.{OwnTags, IsOwn, at_place, is_step_of, steps_of, AreInOrder}
 use Rattle.exactly_once.specs.Invariant.{World, records, values, marks, AreFenced, Logs, IsNext, IsStep, IsOfKind, IsAsked, FencedBehind, AllFenced, IsAmong, Holds}
 use Rattle.exactly_once.specs.MicroSteps.{orders}
-use Rattle.exactly_once.specs.Orders.{IsNewChild, OrdersKeep}
+use Rattle.exactly_once.specs.Orders.{OrdersKeep}
 use Rattle.exactly_once.proofs.Each.{each_weaker}
 use Rattle.exactly_once.proofs.Lives.{Under, live_under}
 use Rattle.exactly_once.proofs.Maps.{same_itself, same_key}
@@ -37,7 +37,12 @@ use Rattle.exactly_once.proofs.Steps.{step_path, in_order}
 use Rattle.exactly_once.proofs.Points.{stands}
 use Rattle.exactly_once.proofs.SamePlace.{IsSamePlace, same_point, same_marks, fit_upto, called_upto, asks_now, place_is, unbegun_marks}
 use Rattle.exactly_once.proofs.Simulates.{live_within}
+use Rattle.exactly_once.proofs.Children.{next_child}
 use Rattle.exactly_once.proofs.MicroSteps.{steps_keep}
+
+path_some : (p : List ℕ) → IsPath p → 0 < length p
+path_some [] path = cc
+path_some (n ∷ p) path = omega arith
 
 -- No version stands at a new record.
 
@@ -89,10 +94,10 @@ module _ (setup : Setup) (fs : List Function) (store : Store) (fences : List Rai
     pub fenced : FencedBehind fences (step_of body) xs
 
   abbrev StepOf : List ℕ → Body → Type 0
-  StepOf p body = (c : ℕ) → IsSamePlace p c xs → IsNewChild body xs → IsNext setup fs store fences (upto c xs) xs body → IsFit body
+  StepOf p body = (c : ℕ) → IsSamePlace p c xs → IsPath p → IsNext setup fs store fences (upto c xs) xs body → IsFit body
 
   fits_init : (p : List ℕ) → StepOf p (b.Init p)
-  fits_init p c same new next =
+  fits_init p c same path next =
       let unbegun : (point setup fs store p xs).begun ≡ false = ap (λ (st : Point). st.begun) (point_now p c same) ∙ next.new in
       record {
         fits = record { call = next.call; called = called_upto setup fs store p c next.call xs next.called; new = unbegun };
@@ -100,43 +105,43 @@ module _ (setup : Setup) (fs : List Function) (store : Store) (fences : List Rai
       }
 
   fits_read : (p : List ℕ) (i : ℕ) (key : List ℕ) → StepOf p (b.Read p i key)
-  fits_read p i key c same new next = record { fits = logs_now p c same i (k.Op (o.Read key)) next; fenced = fenced_now p c same i (k.Op (o.Read key)) next }
+  fits_read p i key c same path next = record { fits = logs_now p c same i (k.Op (o.Read key)) next; fenced = fenced_now p c same i (k.Op (o.Read key)) next }
 
   fits_read_all : (p : List ℕ) (i : ℕ) (keys : List (List ℕ)) → StepOf p (b.ReadGroup p i keys)
-  fits_read_all p i keys c same new next = record { fits = logs_now p c same i (k.Op (o.ReadGroup keys)) next; fenced = fenced_now p c same i (k.Op (o.ReadGroup keys)) next }
+  fits_read_all p i keys c same path next = record { fits = logs_now p c same i (k.Op (o.ReadGroup keys)) next; fenced = fenced_now p c same i (k.Op (o.ReadGroup keys)) next }
 
   fits_push : (p : List ℕ) (i : ℕ) (queue : List ℕ) (value : Value) → StepOf p (b.Push p i queue value)
-  fits_push p i queue value c same new next = record { fits = logs_now p c same i (k.Op (o.Push queue value)) next; fenced = fenced_now p c same i (k.Op (o.Push queue value)) next }
+  fits_push p i queue value c same path next = record { fits = logs_now p c same i (k.Op (o.Push queue value)) next; fenced = fenced_now p c same i (k.Op (o.Push queue value)) next }
 
   fits_pop : (p : List ℕ) (i : ℕ) (queue : List ℕ) → StepOf p (b.Pop p i queue)
-  fits_pop p i queue c same new next = record { fits = logs_now p c same i (k.Op (o.Pop queue)) next; fenced = fenced_now p c same i (k.Op (o.Pop queue)) next }
+  fits_pop p i queue c same path next = record { fits = logs_now p c same i (k.Op (o.Pop queue)) next; fenced = fenced_now p c same i (k.Op (o.Pop queue)) next }
 
   fits_begin : (p : List ℕ) (i : ℕ) (names : List (List ℕ)) → StepOf p (b.TxnBegin p i names)
-  fits_begin p i names c same new next = record { fits = logs_now p c same i (k.Op (o.Begin names)) next; fenced = fenced_now p c same i (k.Op (o.Begin names)) next }
+  fits_begin p i names c same path next = record { fits = logs_now p c same i (k.Op (o.Begin names)) next; fenced = fenced_now p c same i (k.Op (o.Begin names)) next }
 
   fits_finish : (p : List ℕ) (i : ℕ) (outcome : Outcome) → StepOf p (b.Finish p i outcome)
-  fits_finish p i outcome c same new next = record { fits = logs_now p c same i (k.Done outcome) next; fenced = fenced_now p c same i (k.Done outcome) next }
+  fits_finish p i outcome c same path next = record { fits = logs_now p c same i (k.Done outcome) next; fenced = fenced_now p c same i (k.Done outcome) next }
 
   fits_write : (p : List ℕ) (i : ℕ) (place : ℕ) (key : List ℕ) (here : Option Value) → StepOf p (b.Write p i place key here)
-  fits_write p i place key here c same new next = record {
+  fits_write p i place key here c same path next = record {
     fits = record { value = next.0.value; asks = logs_now p c same i (k.Op (o.Write key next.0.value)) next.2; kept = next.0.kept };
     fenced = fenced_now p c same i (k.Op (o.Write key next.0.value)) next.2;
   }
 
   fits_spawn : (p : List ℕ) (i : ℕ) (ordinal : ℕ) (name : List ℕ) (args : List Value) → StepOf p (b.Spawn p i ordinal name args)
-  fits_spawn p i ordinal name args c same new next = record {
-    fits = record { function = next.0; asks = logs_now p c same i (k.Op (o.Spawn ordinal next.0 args)) next.2; found = next.1; unknown = new };
+  fits_spawn p i ordinal name args c same path next = record {
+    fits = record { function = next.0; asks = logs_now p c same i (k.Op (o.Spawn ordinal next.0 args)) next.2; found = next.1; unknown = next_child setup fs store p xs (frees_to i (point setup fs store p xs)) ordinal next.0 args (path_some p path) sound.fit (logs_now p c same i (k.Op (o.Spawn ordinal next.0 args)) next.2).asked };
     fenced = fenced_now p c same i (k.Op (o.Spawn ordinal next.0 args)) next.2;
   }
 
   fits_join : (p : List ℕ) (i : ℕ) (ordinal : ℕ) → StepOf p (b.Join p i ordinal)
-  fits_join p i ordinal c same new next = record {
+  fits_join p i ordinal c same path next = record {
     fits = record { outcome = next.1.0; asks = logs_now p c same i (k.Op (o.Join ordinal)) next.0; result = next.1.1 };
     fenced = fenced_now p c same i (k.Op (o.Join ordinal)) next.0;
   }
 
   fits_commit : (p : List ℕ) (i : ℕ) (begin : ℕ) (names : List (List ℕ)) (writes : List (List ℕ × Value)) → StepOf p (b.TxnCommit p i begin names writes)
-  fits_commit p i begin names writes c same new next = record {
+  fits_commit p i begin names writes c same path next = record {
     fits = record { asks = logs_now p c same i (k.Op (o.Commit names writes)) next.1; begin_is = ap (λ (st : Point). st.transaction) (point_now p c same) ∙ next.0.begin_is };
     fenced = fenced_now p c same i (k.Op (o.Commit names writes)) next.1;
   }
@@ -198,52 +203,52 @@ module _ (setup : Setup) (fs : List Function) (store : Store) (log : List (Entry
   -- a step record
   step_fits :
       (fences : List Raised) (p : List ℕ) (body : Body) (condition : Option Cond) → IsPath p
-      → ((c : ℕ) → IsSamePlace p c (live log) → IsNewChild body (live log) → IsNext setup fs store fences (upto c (live log)) (live log) body → Fit body fences)
-      → IsNewChild body (live log) → meets condition (live log) ≡ true → IsStep setup fs store fences (length log) (live log) p condition body → Fit body fences
-  step_fits fences p body condition path fits new meet step = fits step.c (place_taken p step.c condition path step.place meet) new step.next
+      → ((c : ℕ) → IsSamePlace p c (live log) → IsPath p → IsNext setup fs store fences (upto c (live log)) (live log) body → Fit body fences)
+      → meets condition (live log) ≡ true → IsStep setup fs store fences (length log) (live log) p condition body → Fit body fences
+  step_fits fences p body condition path fits meet step = fits step.c (place_taken p step.c condition path step.place meet) path step.next
 
   -- a path whose call tag has no live record isn't called
   not_called : (p : List ℕ) → count (call_tag p) (live log) ≡ 0 → call_of p (live log) ≡ None
   not_called p none = uncounted p log own none
 
-  record_fits : (fences : List Raised) (body : Body) (condition : Option Cond) → in_range body ≡ true → IsNewChild body (live log) → meets condition (live log) ≡ true → IsOfKind setup fs store fences (length log) (live log) condition body (step_of body) → Fit body fences
-  record_fits fences (b.Submit p f args) condition range new meet kind = record {
+  record_fits : (fences : List Raised) (body : Body) (condition : Option Cond) → in_range body ≡ true → meets condition (live log) ≡ true → IsOfKind setup fs store fences (length log) (live log) condition body (step_of body) → Fit body fences
+  record_fits fences (b.Submit p f args) condition range meet kind = record {
     fits = record {
       request = one_number p (eqb-true (length p) 1 (and_parts _ _ (and_parts _ _ (and_parts _ _ (and_parts _ _ range).0).0).0).1);
       unknown = not_called p (sym (eqb-true 0 (count (call_tag p) (live log)) (ap (λ c. meets c (live log)) (sym kind) ∙ meet)));
     };
     fenced = tt;
   }
-  record_fits fences (b.Init p) condition range new meet kind = step_fits fences p (b.Init p) condition range (fits_init setup fs store fences (length log) (live log) (live_under log) sound p) new meet kind
-  record_fits fences (b.Read p i key) condition range new meet kind =
-      step_fits fences p (b.Read p i key) condition (step_path p i (and_parts _ _ range).0) (fits_read setup fs store fences (length log) (live log) (live_under log) sound p i key) new meet kind
-  record_fits fences (b.ReadGroup p i keys) condition range new meet kind =
-      step_fits fences p (b.ReadGroup p i keys) condition (step_path p i (and_parts _ _ range).0) (fits_read_all setup fs store fences (length log) (live log) (live_under log) sound p i keys) new meet kind
-  record_fits fences (b.Write p i place key here) condition range new meet kind =
-      step_fits fences p (b.Write p i place key here) condition (step_path p i (and_parts _ _ (and_parts _ _ (and_parts _ _ range).0).0).0) (fits_write setup fs store fences (length log) (live log) (live_under log) sound p i place key here) new meet kind
-  record_fits fences (b.Spawn p i ordinal name args) condition range new meet kind =
-      step_fits fences p (b.Spawn p i ordinal name args) condition (step_path p i (and_parts _ _ (and_parts _ _ (and_parts _ _ (and_parts _ _ (and_parts _ _ range).0).0).0).0).0) (fits_spawn setup fs store fences (length log) (live log) (live_under log) sound p i ordinal name args) new meet kind
-  record_fits fences (b.Join p i ordinal) condition range new meet kind =
-      step_fits fences p (b.Join p i ordinal) condition (step_path p i (and_parts _ _ range).0) (fits_join setup fs store fences (length log) (live log) (live_under log) sound p i ordinal) new meet kind
-  record_fits fences (b.Push p i queue value) condition range new meet kind =
-      step_fits fences p (b.Push p i queue value) condition (step_path p i (and_parts _ _ (and_parts _ _ range).0).0) (fits_push setup fs store fences (length log) (live log) (live_under log) sound p i queue value) new meet kind
-  record_fits fences (b.Pop p i queue) condition range new meet kind =
-      step_fits fences p (b.Pop p i queue) condition (step_path p i (and_parts _ _ range).0) (fits_pop setup fs store fences (length log) (live log) (live_under log) sound p i queue) new meet kind
-  record_fits fences (b.TxnBegin p i names) condition range new meet kind =
-      step_fits fences p (b.TxnBegin p i names) condition (step_path p i (and_parts _ _ range).0) (fits_begin setup fs store fences (length log) (live log) (live_under log) sound p i names) new meet kind
-  record_fits fences (b.TxnCommit p i begin names writes) condition range new meet kind =
-      step_fits fences p (b.TxnCommit p i begin names writes) condition (step_path p i (and_parts _ _ (and_parts _ _ (and_parts _ _ (and_parts _ _ range).0).0).0).0) (fits_commit setup fs store fences (length log) (live log) (live_under log) sound p i begin names writes) new meet kind
-  record_fits fences (b.Finish p i outcome) condition range new meet kind =
-      step_fits fences p (b.Finish p i outcome) condition (step_path p i (and_parts _ _ range).0) (fits_finish setup fs store fences (length log) (live log) (live_under log) sound p i outcome) new meet kind
-  record_fits fences _ condition range new meet kind = record { fits = tt; fenced = tt }
+  record_fits fences (b.Init p) condition range meet kind = step_fits fences p (b.Init p) condition range (fits_init setup fs store fences (length log) (live log) (live_under log) sound p) meet kind
+  record_fits fences (b.Read p i key) condition range meet kind =
+      step_fits fences p (b.Read p i key) condition (step_path p i (and_parts _ _ range).0) (fits_read setup fs store fences (length log) (live log) (live_under log) sound p i key) meet kind
+  record_fits fences (b.ReadGroup p i keys) condition range meet kind =
+      step_fits fences p (b.ReadGroup p i keys) condition (step_path p i (and_parts _ _ range).0) (fits_read_all setup fs store fences (length log) (live log) (live_under log) sound p i keys) meet kind
+  record_fits fences (b.Write p i place key here) condition range meet kind =
+      step_fits fences p (b.Write p i place key here) condition (step_path p i (and_parts _ _ (and_parts _ _ (and_parts _ _ range).0).0).0) (fits_write setup fs store fences (length log) (live log) (live_under log) sound p i place key here) meet kind
+  record_fits fences (b.Spawn p i ordinal name args) condition range meet kind =
+      step_fits fences p (b.Spawn p i ordinal name args) condition (step_path p i (and_parts _ _ (and_parts _ _ (and_parts _ _ (and_parts _ _ (and_parts _ _ range).0).0).0).0).0) (fits_spawn setup fs store fences (length log) (live log) (live_under log) sound p i ordinal name args) meet kind
+  record_fits fences (b.Join p i ordinal) condition range meet kind =
+      step_fits fences p (b.Join p i ordinal) condition (step_path p i (and_parts _ _ range).0) (fits_join setup fs store fences (length log) (live log) (live_under log) sound p i ordinal) meet kind
+  record_fits fences (b.Push p i queue value) condition range meet kind =
+      step_fits fences p (b.Push p i queue value) condition (step_path p i (and_parts _ _ (and_parts _ _ range).0).0) (fits_push setup fs store fences (length log) (live log) (live_under log) sound p i queue value) meet kind
+  record_fits fences (b.Pop p i queue) condition range meet kind =
+      step_fits fences p (b.Pop p i queue) condition (step_path p i (and_parts _ _ range).0) (fits_pop setup fs store fences (length log) (live log) (live_under log) sound p i queue) meet kind
+  record_fits fences (b.TxnBegin p i names) condition range meet kind =
+      step_fits fences p (b.TxnBegin p i names) condition (step_path p i (and_parts _ _ range).0) (fits_begin setup fs store fences (length log) (live log) (live_under log) sound p i names) meet kind
+  record_fits fences (b.TxnCommit p i begin names writes) condition range meet kind =
+      step_fits fences p (b.TxnCommit p i begin names writes) condition (step_path p i (and_parts _ _ (and_parts _ _ (and_parts _ _ (and_parts _ _ range).0).0).0).0) (fits_commit setup fs store fences (length log) (live log) (live_under log) sound p i begin names writes) meet kind
+  record_fits fences (b.Finish p i outcome) condition range meet kind =
+      step_fits fences p (b.Finish p i outcome) condition (step_path p i (and_parts _ _ range).0) (fits_finish setup fs store fences (length log) (live log) (live_under log) sound p i outcome) meet kind
+  record_fits fences _ condition range meet kind = record { fits = tt; fenced = tt }
 
   -- a record that is ordered keeps the log sound, with its fences
   record SoundWith (fences : List Raised) (r : Entry Body) : Type 0 where
     pub sound_then : IsSound setup fs store (live (r ∷ log))
     pub fenced_then : AllFenced store fences (live (r ∷ log))
 
-  joined_sound : (fences : List Raised) (r : Entry Body) → AllFenced store fences (live log) → IsNewChild r.holds (live log) → IsAsked setup fs store fences (length log) (live log) r → SoundWith fences r
-  joined_sound fences r fenced new asked = at (meets r.condition (live log)) refl
+  joined_sound : (fences : List Raised) (r : Entry Body) → AllFenced store fences (live log) → IsAsked setup fs store fences (length log) (live log) r → SoundWith fences r
+  joined_sound fences r fenced asked = at (meets r.condition (live log)) refl
     where
       at : (t : Bool) → meets r.condition (live log) ≡ t → SoundWith fences r
       at false e =
@@ -251,16 +256,16 @@ module _ (setup : Setup) (fs : List Function) (store : Store) (log : List (Entry
           record { sound_then = subst (IsSound setup fs store) same sound; fenced_then = subst (AllFenced store fences) same fenced }
       at true e =
           let same : record { seq = suc (length log); tags = r.tags; holds = r.holds } ∷ live log ≡ live (r ∷ log) = sym (ap (λ t. cond t (record { seq = suc (length log); tags = r.tags; holds = r.holds } ∷ live log) (live log)) e) in
-          let fit = record_fits fences r.holds r.condition asked.own.range new e asked.kind in
+          let fit = record_fits fences r.holds r.condition asked.own.range e asked.kind in
           record {
             sound_then = subst (IsSound setup fs store) same (sound_more setup fs store fences (length log) (live log) (live_under log) sound r.tags r.holds fit.fits);
             fenced_then = subst (AllFenced store fences) same (fenced_more setup fs store fences (length log) (live log) (live_under log) sound r.tags r.holds fit.fenced fenced);
           }
 
 pub orders_keep : OrdersKeep
-orders_keep setup fs w r holds among new =
+orders_keep setup fs w r holds among =
     let asked_is : (x : Entry Body) → IsAmong x w.sent → IsAsked setup fs (values w.store) w.store.fences (length w.log) (records w) x =
     λ x is. among_each (IsAsked setup fs (values w.store) w.store.fences (length w.log) (records w)) x w.sent is holds.sent in
     let own : AllByRecursion IsOwn w.log = each_weaker (λ x. IsAmong x w.sent) IsOwn (λ x is. (asked_is x is).own) w.log holds.ordered in
-    let then_ = joined_sound setup fs (values w.store) w.log own holds.sound w.store.fences r holds.fenced new (asked_is r among) in
+    let then_ = joined_sound setup fs (values w.store) w.log own holds.sound w.store.fences r holds.fenced (asked_is r among) in
     (steps_keep setup fs w holds).order r among then_.sound_then then_.fenced_then

@@ -20,7 +20,7 @@ use Rattle.boki_types.specs.declared.operation.Answer.{Answer}
 use Rattle.boki_types.specs.declared.operation.Answer.TheVariants as a
 use Rattle.boki_types.specs.Finding.{find, function_at}
 use Rattle.boki_model.specs.Values.{then_, condition, eval, eval_all, name_of, names_of}
-use Rattle.boki_model.specs.Script.{Block, Branch, Loop, State, Target, Nowhere, One, Each, Standing, Asks, Ended, Flow, Next, Skip, Enter, Stop, set, set_each, opened, closed, or_trap, asks, trapped, tested, unless_none, outside, inside, spawns, joins, paired, firsts, left_of, ends, execute, Passed, Over, Other, On, pass, go, enter, entries, run, opening, begins, set_target, set_targets, joined_with, answered, continued, resume, standing, ask_of, asked}
+use Rattle.boki_model.specs.Script.{Block, Branch, Loop, State, Target, Nowhere, One, Each, Standing, Asks, Ended, Flow, Next, Skip, Enter, Stop, set, set_each, opened, closed, or_trap, asks, trapped, tested, unless_none, outside, inside, spawns, joins, paired, firsts, seconds, sides, left_of, ends, execute, Passed, Over, Other, On, pass, go, enter, entries, run, opening, begins, set_target, set_targets, joined_with, answered, continued, resume, standing, ask_of, asked}
 
 -- how many spawns were answered
 abbrev pub is_spawned : Answer → ℕ
@@ -93,14 +93,14 @@ module _ (n : ℕ) where
   execute_counts fs depth (s.Join x e) lines t is = trap_counts (eval e t.variables) (joins x lines t) (λ v. joins_count x lines t is v)
   execute_counts fs depth (s.Push e f) lines t is = trap_counts (eval e t.variables) _ (λ m. trap_counts (eval f t.variables) _ (λ v. trap_counts (name_of m) _ (λ queue. none_counts v (asks Nowhere lines t (o.Push queue v)) (is, tt))))
   execute_counts fs depth (s.Pop x e) lines t is = trap_counts (then_ (eval e t.variables) name_of) _ (λ queue. (is, tt))
-  execute_counts fs depth (s.Begin pairs) lines t is = trap_counts (then_ (eval_all _ t.variables) names_of) _ (λ names. outside_counts t.transaction (asks (Each (firsts pairs)) lines t (o.Begin names)) (is, tt))
-  execute_counts fs depth (s.Commit x pairs) lines t is = trap_counts (eval_all _ t.variables) _ (λ vs. trap_counts (names_of (left_of vs)) _ (λ ns. inside_counts t.transaction (λ read. asks (One x) lines t (o.Commit read (paired ns vs))) (λ read. (is, tt))))
+  execute_counts fs depth (s.Begin pairs) lines t is = trap_counts (then_ (eval_all (seconds pairs) t.variables) names_of) _ (λ names. outside_counts t.transaction (asks (Each (firsts pairs)) lines t (o.Begin names)) (is, tt))
+  execute_counts fs depth (s.Commit x pairs) lines t is = trap_counts (eval_all (sides pairs) t.variables) _ (λ vs. trap_counts (names_of (left_of vs)) _ (λ ns. inside_counts t.transaction (λ read. asks (One x) lines t (o.Commit read (paired ns vs))) (λ read. (is, tt))))
   execute_counts fs depth (s.If e) lines t is = trap_counts (then_ (eval e t.variables) condition) _ (λ b. branch_counts b (Next (opened Branch t)) (Skip t) is is)
   execute_counts fs depth s.Else lines t is = is
   execute_counts fs depth (s.While e) lines t is = trap_counts (then_ (eval e t.variables) condition) _ (λ b. branch_counts b (Enter lines (opened (Loop e lines) t)) (Skip t) is is)
   execute_counts fs depth s.End lines t is = ends_count t.blocks t is
   execute_counts fs depth (s.Return e) lines t is = trap_counts (eval e t.variables) _ (λ v. tt)
-  execute_counts fs depth (s.ReadAll pairs) lines t is = trap_counts (then_ (eval_all _ t.variables) names_of) _ (λ keys. (is, tt))
+  execute_counts fs depth (s.ReadAll pairs) lines t is = trap_counts (then_ (eval_all (seconds pairs) t.variables) names_of) (λ keys. asks (Each (firsts pairs)) lines t (o.ReadGroup keys)) (λ keys. (is, tt))
 
   module _ (fs : List Function) (depth : ℕ) where
     go_counts : (inner : List Stmt → State → Standing) → ((body : List Stmt) (t : State) → t.spawned ≡ n → Counts n (inner body t)) → (skipping : Option ℕ) (lines : List Stmt) (t : State) → t.spawned ≡ n → Counts n (go fs depth inner skipping lines t)

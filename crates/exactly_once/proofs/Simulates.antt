@@ -17,10 +17,11 @@ use Rattle.boki_model.specs.Writes.{Store, Version, versions_at, last}
 use Rattle.boki_machine.specs.Decided.{Point}
 use Rattle.boki_machine.specs.Turns.{turn_of, turns_to, ahead_by}
 use Rattle.boki_machine.specs.Ideal.{Invocation, Ideal, turn, ideal, opening, put_objects}
+use Rattle.boki_model.proofs.KeyMaps.{get-put_same}
 use Rattle.exactly_once.specs.Sound.{Reaches, frees_to, standing_at, StandAt, AllFit, IsSound}
 use Rattle.exactly_once.specs.Runs.{Runs, SoundRuns}
 use Rattle.exactly_once.proofs.Lives.{Under, live_under}
-use Rattle.exactly_once.proofs.Maps.{get_here, get_other, get-put_objects, keys_cases}
+use Rattle.exactly_once.proofs.Maps.{get_other, get-put_objects, keys_cases}
 use Rattle.exactly_once.proofs.Each.{each_weaker}
 use Rattle.exactly_once.proofs.Positions.{Numbered, last_first}
 use Rattle.exactly_once.proofs.Stages.{stage_rise}
@@ -91,7 +92,7 @@ module _ (setup : Setup) (fs : List Function) (store : Store) where
   ahead_apart q ahead (Some s) other = get_other q s.0 s.1 ahead (other s refl)
 
   ahead_own : (q : List ℕ) (i : ℕ) (ahead : List (List ℕ × ℕ)) (o : Option (List ℕ × ℕ)) → o ≡ Some (q, i) → get q (ahead_by o ahead) ≡ Some i
-  ahead_own q i ahead o is = ap (λ o. get q (ahead_by o ahead)) is ∙ get_here q i ahead
+  ahead_own q i ahead o is = ap (λ o. get q (ahead_by o ahead)) is ∙ get-put_same q i ahead
 
   valid_before : (x : Live Body) (xs : List (Live Body)) (m : ℕ) → x.seq ≡ suc m → Under m xs → AllFit setup fs store (x ∷ xs) → (ahead : List (List ℕ × ℕ)) → Valid setup fs store ahead (x ∷ xs) → Valid setup fs store (ahead_by (step_of x.holds) ahead) xs
   valid_before x xs m is_seq under fit ahead valid q = at (stands setup fs store q (x ∷ xs)) (valid q) (does setup fs store x xs q fit.0)

@@ -22,9 +22,10 @@ use Rattle.boki_machine.specs.Decided.{Point, more, function_of, transaction_beh
 use Rattle.boki_machine.specs.Turns.{until}
 use Rattle.boki_machine.specs.Ideal.{Invocation, Ideal, Dirty, dirtied, dirty_all}
 use Rattle.boki_machine.specs.Ideal as ideal
+use Rattle.boki_model.proofs.KeyMaps.{get-put_same}
 use Rattle.exactly_once.specs.Sound.{MayCommit, frees_to, AllFit}
 use Rattle.exactly_once.proofs.Lives.{Under}
-use Rattle.exactly_once.proofs.Maps.{get_here, get_other}
+use Rattle.exactly_once.proofs.Maps.{get_other}
 use Rattle.exactly_once.proofs.Points.{stands, Does, does, apart, began, operates, ends, cursor_within}
 use Rattle.exactly_once.proofs.Frees.{on}
 use Rattle.exactly_once.proofs.Goes.{OthersAre, others_put, IsState}
@@ -148,7 +149,7 @@ module _ (setup : Setup) (fs : List Function) (store : Store) (seq : ℕ) (tags 
         (ideal.answers p (record own_begun { transaction = Some [] }) begun_answer s)
         (ap (λ n. Some (ideal.answers p (record own_begun { transaction = Some [] }) (a.Values (values_of names n)) s)) agrees.names_are)
         (record {
-          here = get_here p after_begin s.invocations ∙ ap (λ d. Some (record after_begin { transaction = Some d })) (sym (clean_since m seq xs under (omega (arith, is_seq))));
+          here = get-put_same p after_begin s.invocations ∙ ap (λ d. Some (record after_begin { transaction = Some d })) (sym (clean_since m seq xs under (omega (arith, is_seq))));
           others_are = others_put p (λ q. expected setup fs store (get q ahead) (with_body (b.TxnBegin p i names) ∷ xs) q) after_begin s.invocations
               (others_kept setup fs store (with_body (b.TxnBegin p i names)) xs p i refl m is_seq under fit ahead s agrees (λ q e. refl) refl);
           objects = objects_kept setup fs store (with_body (b.TxnBegin p i names)) xs p i refl m is_seq under fit ahead s agrees (λ key. refl);
@@ -186,14 +187,14 @@ module _ (setup : Setup) (fs : List Function) (store : Store) (seq : ℕ) (tags 
 
     commit_state : (t : Bool) → good ≡ t → IsState fs store (with_body (b.TxnCommit p i begin names writes) ∷ xs) p (λ q. expected setup fs store (get q ahead) (with_body (b.TxnCommit p i begin names writes) ∷ xs) q) (queues xs) (stored (commits (with_body (b.TxnCommit p i begin names writes) ∷ xs))) (after_commit t) seq 1 (ideal.commits t p own_committed writes s)
     commit_state true succeeded = record {
-      here = get_here p (after_commit true) (dirty_all (written writes) s.invocations);
+      here = get-put_same p (after_commit true) (dirty_all (written writes) s.invocations);
       others_are = others_put p (λ q. expected setup fs store (get q ahead) (with_body (b.TxnCommit p i begin names writes) ∷ xs) q) (after_commit true) (dirty_all (written writes) s.invocations) (dirty_other succeeded);
       objects = objects_kept setup fs store (with_body (b.TxnCommit p i begin names writes)) xs p i refl m is_seq under fit ahead s agrees (λ key. refl);
       queues_are = agrees.queues_are;
       names_are = ap (put_all writes) agrees.names_are ∙ ap (λ t. stored (cond t (new_commit ∷ commits xs) (commits xs))) (sym succeeded);
     }
     commit_state false no_good = record {
-      here = get_here p (after_commit false) s.invocations;
+      here = get-put_same p (after_commit false) s.invocations;
       others_are = others_put p (λ q. expected setup fs store (get q ahead) (with_body (b.TxnCommit p i begin names writes) ∷ xs) q) (after_commit false) s.invocations
           (others_kept setup fs store (with_body (b.TxnCommit p i begin names writes)) xs p i refl m is_seq under fit ahead s agrees (λ q e. refl) (ap (λ t. cond t (new_commit ∷ commits xs) (commits xs)) no_good));
       objects = objects_kept setup fs store (with_body (b.TxnCommit p i begin names writes)) xs p i refl m is_seq under fit ahead s agrees (λ key. refl);
