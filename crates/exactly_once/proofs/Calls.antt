@@ -1,14 +1,12 @@
 -- The turns of records that are no operations': a request, an Init, a Finish, and those that give no turn.
-use Rattle.std.proofs.Common.{◌≡◌, ◌⊎◌, inl, inr, ⊎_elim, ℕ, zero, suc, ◌+◌, ◌-◌, ◌<◌, ◌≤◌, Bool, true, false, cond, List, [], ◌∷◌, ◌++◌, length, Option, Some, None, option_map, refl, sym, ap, ◌∙◌, subst, arith}
+use Rattle.std.proofs.Common.{◌≡◌, ℕ, suc, false, cond, List, [], ◌∷◌, length, Option, Some, None, refl, sym, ap, ◌∙◌, subst, arith}
 use Rattle.std.specs.Prelude.{bytes_eq, option_and_then, unwrap_or, slice_index}
 use Rattle.lb_base.specs.declared.value.Tag.{Tag}
 use Rattle.lb_base.specs.declared.value.Value.{Value}
 use Rattle.lb_base.specs.declared.value.Outcome.{Outcome}
 use Rattle.boki_types.specs.declared.body.Body.{Body}
 use Rattle.boki_types.specs.declared.body.Body.TheVariants as b
-use Rattle.boki_types.specs.declared.log.Call.{Call}
 use Rattle.boki_types.specs.declared.operation.Ask.TheVariants as asks
-use Rattle.boki_types.specs.declared.operation.Answer.{Answer}
 use Rattle.boki_types.specs.declared.plan.Setup.{Setup}
 use Rattle.boki_types.specs.declared.program.Function.{Function}
 use Rattle.boki_types.specs.Finding.{find}
@@ -19,22 +17,21 @@ use Rattle.boki_model.specs.Maps.{get, put}
 use Rattle.boki_model.specs.Writes.{Store, Version, versions_at, if_key, logged_write, last}
 use Rattle.boki_model.specs.Folds.{queues, commits, stored}
 use Rattle.boki_machine.specs.Attempt.{call_in, call_of}
-use Rattle.boki_machine.specs.Decided.{Point, unknown, point, more, advanced, initiated, finished, function_of, args_of}
-use Rattle.boki_machine.specs.Turns.{until, turn_of, ahead_by}
+use Rattle.boki_machine.specs.Decided.{Point, more, advanced, initiated, finished, function_of, args_of}
+use Rattle.boki_machine.specs.Turns.{until, turn_of}
 use Rattle.boki_machine.specs.Ideal.{Invocation, Ideal, invoked, running, unless_ended, submitted, with_invocation, go, ideal}
 use Rattle.boki_machine.specs.Ideal as ideal
 use Rattle.boki_model.proofs.KeyMaps.{get-put_same}
-use Rattle.exactly_once.specs.Sound.{Reaches, Asks, MaySubmit, MayBegin, frees_to, standing_at, MayStand, StandAt, AllFit}
+use Rattle.exactly_once.specs.Sound.{Asks, MaySubmit, MayBegin, standing_at, MayStand, AllFit}
 use Rattle.exactly_once.proofs.Lives.{Under}
-use Rattle.exactly_once.proofs.Maps.{same_itself, get_other, keys_cases}
+use Rattle.exactly_once.proofs.Maps.{same_itself, get_other}
 use Rattle.exactly_once.proofs.Positions.{Numbered}
 use Rattle.exactly_once.proofs.Stages.{stage_before, stage_other, stage_end}
 use Rattle.exactly_once.proofs.Points.{stands, cursor_within, unbegun, uncalled, is_called, still_called, IsCalled}
-use Rattle.exactly_once.proofs.Frees.{on}
-use Rattle.exactly_once.proofs.Goes.{AreLast, OthersAre, others_put, by_key, IsState, go_start}
+use Rattle.exactly_once.proofs.Goes.{AreLast, others_put, by_key, go_start}
 use Rattle.exactly_once.proofs.FreeTurns.{running_at}
 use Rattle.exactly_once.proofs.Looks.{open_since, look, look_new, where_begun, frees, expected, Agrees, Next, Valid, frame, Went, step_turn}
-use Rattle.exactly_once.proofs.Operations.{stands_own, stand_own, numbered_own, others_kept, objects_kept, at_operation, before_own}
+use Rattle.exactly_once.proofs.Operations.{stands_own, stand_own, others_kept, objects_kept, at_operation, before_own}
 
 module _ (setup : Setup) (fs : List Function) (store : Store) where
   -- the turn of a record is defined, and leads to the state that belongs to the records with it

@@ -1,5 +1,5 @@
 -- A child that a script asks to spawn is new: the children of an invocation are those of its answered spawns.
-use Rattle.std.proofs.Common.{◌≡◌, ◌⊎◌, inl, inr, ⊎_elim, ℕ, zero, suc, ◌+◌, ◌-◌, ◌<◌, ◌≤◌, Bool, true, false, cond, List, [], ◌∷◌, ◌++◌, length, Option, Some, None, refl, sym, ap, ◌∙◌, subst, arith}
+use Rattle.std.proofs.Common.{◌≡◌, ◌⊎◌, inl, inr, ℕ, zero, suc, ◌-◌, ◌<◌, ◌≤◌, false, cond, List, [], ◌∷◌, length, Option, Some, None, refl, sym, ap, ◌∙◌, subst, arith}
 use Rattle.std.specs.Prelude.{bytes_eq, slice_index}
 use Rattle.lb_base.specs.declared.value.Value.{Value}
 use Rattle.boki_types.specs.declared.body.Body.{Body}
@@ -17,11 +17,10 @@ use Rattle.boki_model.specs.Writes.{Store}
 use Rattle.boki_machine.specs.Attempt.{call_in, call_of}
 use Rattle.boki_machine.specs.Decided.{Point, asked_at, free_answer, and_answer, own_answer, more, operated, stepped}
 use Rattle.exactly_once.specs.Sound.{MaySubmit, MaySpawn, Fits, frees_to, AllFit}
-use Rattle.exactly_once.proofs.Maps.{same_itself, same_key, keys_cases}
+use Rattle.exactly_once.proofs.Maps.{keys_cases}
 use Rattle.exactly_once.proofs.Points.{stands, Does, does, apart, began, operates, ends, unbegun}
-use Rattle.exactly_once.proofs.Frees.{on}
 use Rattle.exactly_once.proofs.Operations.{stands_own}
-use Rattle.exactly_once.proofs.Ordinals.{is_spawned, spawned_in, ordinal_is}
+use Rattle.exactly_once.proofs.Ordinals.{spawned_in, ordinal_is}
 
 -- Paths of children.
 
@@ -74,7 +73,7 @@ module _ (setup : Setup) (fs : List Function) (store : Store) (p : List ℕ) whe
       let st = stands setup fs store p xs in
       let may : MaySpawn fs store xs p st i ordinal name args = subst (Fits setup fs store xs) holds fit.0 in
       let is : stands setup fs store p (x ∷ xs) ≡ operated fs store xs p x.seq (b.Spawn p i ordinal name args) i st =
-          stands_own setup fs store x xs p i (ap step_of holds) ∙ ap (λ body. stepped setup fs store xs p x.seq body i st) holds in
+      stands_own setup fs store x xs p i (ap step_of holds) ∙ ap (λ body. stepped setup fs store xs p x.seq body i st) holds in
       let one : ordinal ≡ suc (spawned_in (more fs store xs p st (frees_to i st))) = ordinal_is fs (length p) st.function st.args (more fs store xs p st (frees_to i st)) ordinal may.function args may.asks.asked in
       subst (λ (new : Point). ordinal ≤ spawned_in new.answers) (sym is) (omega (arith, one))
 

@@ -1,24 +1,22 @@
 -- The failure-free execution of the free operations behind a step record.
-use Rattle.std.proofs.Common.{◌≡◌, ◌⊎◌, inl, inr, ⊎_elim, ℕ, zero, suc, ◌+◌, ◌-◌, ◌<◌, ◌≤◌, Bool, true, false, cond, eqb, List, [], ◌∷◌, length, Option, Some, None, option_map, refl, sym, ap, ◌∙◌, subst, arith}
-use Rattle.std.specs.Prelude.{bytes_eq}
+use Rattle.std.proofs.Common.{◌≡◌, ℕ, zero, suc, ◌+◌, List, [], ◌∷◌, length, Option, Some, None, refl, sym, ap, ◌∙◌, subst, arith}
 use Rattle.lb_base.specs.declared.value.Value.{Value}
 use Rattle.lb_base.specs.declared.value.Outcome.{Outcome}
 use Rattle.lb_base.specs.declared.value.Mode.{Mode}
 use Rattle.lb_base.specs.declared.value.Mode.TheVariants.{R, W, T}
 use Rattle.boki_types.specs.declared.body.Body.{Body}
-use Rattle.boki_types.specs.declared.operation.Ask.{Ask}
 use Rattle.boki_types.specs.declared.operation.Answer.{Answer}
 use Rattle.boki_types.specs.declared.operation.Answer.TheVariants as a
 use Rattle.boki_types.specs.declared.program.Function.{Function}
 use Rattle.boki_model.specs.Live.{Live}
-use Rattle.boki_model.specs.Writes.{Store, Version, versions_at, version, last}
-use Rattle.boki_machine.specs.Decided.{Point, asked_at, or_none, values_below, free_answer, more}
+use Rattle.boki_model.specs.Writes.{Store, Version, version, last}
+use Rattle.boki_machine.specs.Decided.{Point, asked_at, or_none, values_below, free_answer}
 use Rattle.boki_machine.specs.Ideal.{Invocation, Ideal, Dirty}
-use Rattle.exactly_once.specs.Sound.{Reaches, frees_to, standing_at, AreNextWrites, MayStand}
-use Rattle.exactly_once.proofs.Tails.{Tail, here, there, shorter}
+use Rattle.exactly_once.specs.Sound.{standing_at, AreNextWrites, MayStand}
+use Rattle.exactly_once.proofs.Tails.{Tail, here, shorter}
 use Rattle.exactly_once.proofs.Lives.{Under}
 use Rattle.exactly_once.proofs.Positions.{Numbered}
-use Rattle.exactly_once.proofs.Frees.{on, on_least, IsNext, next_decided, long_reaches, is_read, IsRead, reads, reads_all, AreFound, writes_long, IsWritten, is_written}
+use Rattle.exactly_once.proofs.Frees.{on, IsNext, next_decided, is_read, IsRead, reads, reads_all, AreFound, writes_long, IsWritten, is_written}
 use Rattle.exactly_once.proofs.Stages.{is_found, stage_version, stage_others, stage_end}
 use Rattle.exactly_once.proofs.Goes.{Gone, moved_to, answering, go_answer, go_write}
 use Rattle.exactly_once.proofs.Goes as goes

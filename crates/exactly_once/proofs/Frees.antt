@@ -1,11 +1,9 @@
 -- Free operations: what they answer, and how many of them are decided.
-use Rattle.std.proofs.Common.{◌≡◌, ◌⊎◌, inl, inr, ⊎_elim, ℕ, zero, suc, ◌+◌, ◌-◌, ◌<◌, ◌≤◌, Bool, true, false, cond, eqb, List, [], ◌∷◌, length, Option, Some, None, refl, sym, ap, ◌∙◌, subst, arith}
+use Rattle.std.proofs.Common.{◌≡◌, ℕ, zero, suc, ◌+◌, ◌-◌, ◌<◌, ◌≤◌, cond, List, [], ◌∷◌, length, Option, Some, None, refl, sym, ap, ◌∙◌, arith}
 use Rattle.std.specs.Prelude.{is_some}
-use Rattle.lb_base.specs.declared.value.Value.{Value}
 use Rattle.lb_base.specs.declared.value.Mode.{Mode}
 use Rattle.lb_base.specs.declared.value.Mode.TheVariants.{R, W, T}
 use Rattle.boki_types.specs.declared.body.Body.{Body}
-use Rattle.boki_types.specs.declared.operation.Op.{Op}
 use Rattle.boki_types.specs.declared.operation.Op.TheVariants as o
 use Rattle.boki_types.specs.declared.operation.Ask.{Ask}
 use Rattle.boki_types.specs.declared.operation.Ask.TheVariants as k
@@ -13,12 +11,11 @@ use Rattle.boki_types.specs.declared.operation.Answer.{Answer}
 use Rattle.boki_types.specs.declared.operation.Answer.TheVariants as a
 use Rattle.boki_types.specs.declared.program.Function.{Function}
 use Rattle.boki_model.specs.Live.{Live}
-use Rattle.boki_model.specs.Writes.{Store, Version, last, has_version, version}
+use Rattle.boki_model.specs.Writes.{Store, Version, last, version}
 use Rattle.boki_machine.specs.Decided.{Point, asked_at, or_none, values_below, free_answer, and_answer, more}
-use Rattle.exactly_once.specs.Sound.{Reaches, frees_to, standing_at, AreNextWrites}
-use Rattle.exactly_once.proofs.Tails.{Tail, here, there}
+use Rattle.exactly_once.specs.Sound.{Reaches, frees_to, AreNextWrites}
 use Rattle.exactly_once.proofs.Lasts.{not_below_zero}
-use Rattle.exactly_once.proofs.Positions.{last_behind, Numbered}
+use Rattle.exactly_once.proofs.Positions.{last_behind}
 
 -- A record above the cursor changes no free answer.
 

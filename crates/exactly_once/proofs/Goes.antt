@@ -1,11 +1,10 @@
 -- The failure-free execution of an invocation's next operations.
-use Rattle.std.proofs.Common.{◌≡◌, ◌⊎◌, inl, inr, ⊎_elim, ℕ, zero, suc, ◌+◌, ◌-◌, ◌<◌, ◌≤◌, Bool, true, false, cond, eqb, List, [], ◌∷◌, length, map, Option, Some, None, option_map, refl, sym, ap, ◌∙◌, subst, arith}
+use Rattle.std.proofs.Common.{◌≡◌, ◌⊎◌, inl, inr, ⊎_elim, ℕ, suc, false, List, [], ◌∷◌, map, Option, Some, None, option_map, refl, sym, ap, ◌∙◌, subst}
 use Rattle.std.specs.Prelude.{option_and_then, unwrap_or, bytes_eq}
 use Rattle.lb_base.specs.declared.value.Value.{Value}
 use Rattle.lb_base.specs.declared.value.Value.TheVariants.{Nothing}
 use Rattle.boki_types.specs.declared.body.Body.{Body}
 use Rattle.boki_types.specs.declared.operation.Op.TheVariants as o
-use Rattle.boki_types.specs.declared.operation.Ask.{Ask}
 use Rattle.boki_types.specs.declared.operation.Ask.TheVariants as asks
 use Rattle.boki_types.specs.declared.operation.Answer.{Answer}
 use Rattle.boki_types.specs.declared.operation.Answer.TheVariants as a
@@ -17,7 +16,7 @@ use Rattle.boki_model.proofs.KeyMaps.{get-put_same}
 use Rattle.boki_machine.specs.Decided.{or_none, values_below}
 use Rattle.boki_machine.specs.Ideal.{Invocation, Ideal, running, unless_ended, one, go, asked_by}
 use Rattle.boki_machine.specs.Ideal as ideal
-use Rattle.exactly_once.proofs.Maps.{get-put, get_other, keys_cases, same_itself}
+use Rattle.exactly_once.proofs.Maps.{get_other, keys_cases}
 
 -- The objects are the last writes below a position.
 abbrev pub AreLast : Store → List (Live Body) → ℕ → ℕ → List (List ℕ × Value) → Type 0

@@ -1,9 +1,7 @@
 -- What was asked, and what attempts follow, stays so as records are ordered and fences rise.
-use Rattle.std.proofs.Common.{◌≡◌, ◌⊎◌, inl, inr, ⊎_elim, ℕ, zero, suc, ◌<◌, ◌≤◌, Bool, true, false, cond, List, [], ◌∷◌, length, Option, Some, None, refl, sym, ap, ◌∙◌, subst, arith}
-use Rattle.std.specs.Prelude.{bytes_eq, max}
-use Rattle.std.specs.List.{AllByRecursion}
+use Rattle.std.proofs.Common.{◌≡◌, inl, inr, ⊎_elim, ℕ, ◌≤◌, Bool, true, false, List, [], ◌∷◌, Option, Some, None, sym, ap, ◌∙◌, subst, arith}
 use Rattle.lb_base.specs.declared.value.Mode.{Mode}
-use Rattle.lb_base.specs.declared.value.Mode.TheVariants.{R, W, T}
+use Rattle.lb_base.specs.declared.value.Mode.TheVariants.{R, W}
 use Rattle.lb_base.specs.declared.value.Outcome.{Outcome}
 use Rattle.lb_base.specs.declared.value.Cond.{Cond}
 use Rattle.boki_types.specs.declared.body.Body.{Body}
@@ -14,19 +12,14 @@ use Rattle.boki_types.specs.declared.operation.Ask.TheVariants as k
 use Rattle.boki_types.specs.declared.operation.Answer.{Answer}
 use Rattle.boki_types.specs.declared.plan.Setup.{Setup}
 use Rattle.boki_types.specs.declared.program.Function.{Function}
-use Rattle.boki_model.specs.Live.{Entry, Live, meets, live, upto}
+use Rattle.boki_model.specs.Live.{Entry, Live, upto}
 use Rattle.boki_model.specs.Bodies.{child, step_of}
-use Rattle.boki_model.specs.Reads.{or_else}
-use Rattle.boki_model.specs.Modes.{result_of, finish_of}
-use Rattle.boki_model.specs.Floor.{floor, counted}
-use Rattle.boki_model.specs.Writes.{Store, Raised, fence, raised}
-use Rattle.boki_model.proofs.Logs.{earlier_stays}
-use Rattle.boki_machine.specs.Attempt.{Attempt, new_attempt}
+use Rattle.boki_model.specs.Modes.{result_of}
+use Rattle.boki_model.specs.Writes.{Store, Raised, fence}
+use Rattle.boki_machine.specs.Attempt.{Attempt}
 use Rattle.boki_machine.specs.Decided.{Point, point}
-use Rattle.exactly_once.specs.Sound.{IsSound, AllFit, standing_at}
 use Rattle.exactly_once.specs.Steps.{at_place}
-use Rattle.exactly_once.specs.Invariant.{World, records, values, marks, AreFenced, MayLog, Logs, IsNext, IsStep, IsOfKind, IsAsked, FencedBehind, AllFenced, KnowsLate, Follows, IsFresh, IsFollowing, IsAmong, Holds}
-use Rattle.exactly_once.specs.MicroSteps.{raises, lifts, sends, orders, with_attempts, with_positions, StepsKeep, MicroStepsKeep}
+use Rattle.exactly_once.specs.Invariant.{marks, AreFenced, MayLog, Logs, IsNext, IsStep, IsOfKind, IsAsked, FencedBehind, AllFenced, KnowsLate, Follows, IsFollowing}
 use Rattle.exactly_once.proofs.Each.{each_weaker}
 
 module _ (fences fences' : List Raised) (grow : (key : List ℕ) → fence key fences ≤ fence key fences') where

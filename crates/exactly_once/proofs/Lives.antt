@@ -1,7 +1,7 @@
 -- Live records by their seqnums, which fall.
 use Rattle.std.proofs.Common.{◌≡◌, ⊎_elim, ℕ, suc, ◌<◌, ◌≤◌, Bool, true, false, cond, eqb, List, [], ◌∷◌, length, Some, refl, sym, ap, ◌∙◌, subst, arith, ◌-◌}
-use Rattle.std.proofs.lemmas.Bool.{eqb-true, le-leb, lt-leb}
-use Rattle.boki_model.specs.Live.{Entry, Live, meets, joined, live, upto}
+use Rattle.std.proofs.lemmas.Bool.{eqb-true}
+use Rattle.boki_model.specs.Live.{Entry, Live, live, upto}
 use Rattle.boki_model.specs.LogLaws.{FallBelow}
 use Rattle.boki_model.proofs.Logs.{fall_more, live_falls, upto_skip, upto_all}
 use Rattle.exactly_once.specs.Exclusion.{held_at}

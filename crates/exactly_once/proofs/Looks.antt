@@ -1,20 +1,15 @@
 -- The failure-free state that belongs to the records of a sound log.
-use Rattle.std.proofs.Common.{◌≡◌, ◌⊎◌, inl, inr, ⊎_elim, ℕ, zero, suc, ◌+◌, ◌-◌, ◌<◌, ◌≤◌, Bool, true, false, cond, ltb, List, [], ◌∷◌, ◌++◌, length, Option, Some, None, option_map, refl, sym, ap, ◌∙◌, subst, arith}
-use Rattle.std.specs.Prelude.{bytes_eq}
-use Rattle.lb_base.specs.declared.value.Value.{Value}
-use Rattle.lb_base.specs.declared.value.Outcome.{Outcome}
-use Rattle.lb_base.specs.declared.value.Mode.{Mode}
-use Rattle.lb_base.specs.declared.value.Mode.TheVariants.{R, W, T}
+use Rattle.std.proofs.Common.{◌≡◌, ℕ, suc, ◌+◌, ◌<◌, Bool, true, false, cond, ltb, List, [], ◌∷◌, ◌++◌, length, Option, Some, None, option_map, refl, sym, ap, ◌∙◌, subst, arith}
+use Rattle.lb_base.specs.declared.value.Mode.TheVariants.{W}
 use Rattle.boki_types.specs.declared.body.Body.{Body}
 use Rattle.boki_types.specs.declared.log.Call.{Call}
 use Rattle.boki_types.specs.declared.operation.Answer.{Answer}
 use Rattle.boki_types.specs.declared.plan.Setup.{Setup}
 use Rattle.boki_types.specs.declared.program.Function.{Function}
 use Rattle.boki_model.specs.Live.{Live}
-use Rattle.boki_model.specs.Bodies.{step_of}
 use Rattle.boki_model.specs.Reads.{or_else}
-use Rattle.boki_model.specs.Maps.{get, put}
-use Rattle.boki_model.specs.Writes.{Store, Version, versions_at, last}
+use Rattle.boki_model.specs.Maps.{get}
+use Rattle.boki_model.specs.Writes.{Store, versions_at}
 use Rattle.boki_model.specs.Folds.{Commit, queues, commits, stored, written}
 use Rattle.boki_machine.specs.Attempt.{call_in, call_of}
 use Rattle.boki_machine.specs.Decided.{Point, unknown, more, function_of}

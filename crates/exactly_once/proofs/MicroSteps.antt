@@ -1,5 +1,5 @@
 -- Small changes of a state keep the invariant.
-use Rattle.std.proofs.Common.{◌≡◌, ◌⊎◌, inl, inr, ⊎_elim, ℕ, zero, suc, ◌<◌, ◌≤◌, Bool, true, false, cond, List, [], ◌∷◌, length, Option, Some, None, refl, sym, ap, ◌∙◌, subst, arith}
+use Rattle.std.proofs.Common.{◌≡◌, inl, inr, ℕ, suc, ◌≤◌, Bool, true, false, cond, List, [], ◌∷◌, length, Some, refl, sym, ap, subst, arith}
 use Rattle.std.specs.Prelude.{bytes_eq, max}
 use Rattle.std.specs.List.{AllByRecursion}
 use Rattle.lb_base.specs.declared.value.Outcome.{Outcome}
@@ -9,12 +9,12 @@ use Rattle.boki_types.specs.declared.program.Function.{Function}
 use Rattle.boki_model.specs.Live.{Entry, Live, meets, joined, live, upto}
 use Rattle.boki_model.specs.Reads.{or_else}
 use Rattle.boki_model.specs.Modes.{result_of, finish_of}
-use Rattle.boki_model.specs.Floor.{floor, counted}
-use Rattle.boki_model.specs.Writes.{Store, Raised, fence, raised}
+use Rattle.boki_model.specs.Floor.{floor}
+use Rattle.boki_model.specs.Writes.{Raised, fence, raised}
 use Rattle.boki_model.proofs.Logs.{earlier_stays}
 use Rattle.boki_machine.specs.Attempt.{Attempt, new_attempt}
 use Rattle.exactly_once.specs.Sound.{IsSound}
-use Rattle.exactly_once.specs.Invariant.{World, records, values, AllFenced, IsAsked, IsFollowing, IsFresh, IsAmong, Holds}
+use Rattle.exactly_once.specs.Invariant.{World, records, values, AllFenced, IsAsked, IsFollowing, IsAmong, Holds}
 use Rattle.exactly_once.specs.MicroSteps.{raises, lifts, sends, orders, with_attempts, with_positions, StepsKeep, MicroStepsKeep}
 use Rattle.exactly_once.proofs.Each.{each_weaker}
 use Rattle.exactly_once.proofs.Later.{all_fenced_later, asked_later, following_later}

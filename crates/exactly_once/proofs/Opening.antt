@@ -1,16 +1,12 @@
 -- The invariant at the opening, and what it gives of reports.
-use Rattle.std.proofs.Common.{◌≡◌, ℕ, zero, suc, ◌≤◌, List, [], ◌∷◌, ◌++◌, length, map, refl, sym, ap, ◌∙◌, subst, arith}
+use Rattle.std.proofs.Common.{◌≡◌, ℕ, zero, suc, ◌≤◌, [], length, refl, sym, subst, arith}
 use Rattle.std.specs.Prelude.{replicate}
 use Rattle.std.specs.List.{AllByRecursion}
-use Rattle.boki_types.specs.declared.plan.Setup.{Setup}
-use Rattle.boki_types.specs.declared.program.Function.{Function}
-use Rattle.boki_model.specs.Writes.{Store}
-use Rattle.boki_machine.specs.Machine.{Machine, opening, log, live_log}
+use Rattle.boki_machine.specs.Machine.{opening, log, live_log}
 use Rattle.boki_machine.specs.Turns.{turns}
 use Rattle.exactly_once.specs.Runs.{Runs}
-use Rattle.exactly_once.specs.Reported.{IsReported}
-use Rattle.exactly_once.specs.Invariant.{World, values, IsAsked, Holds}
-use Rattle.exactly_once.specs.Opening.{all_of, world_of, OpeningHolds, HoldingIsReported}
+use Rattle.exactly_once.specs.Invariant.{values, IsAsked}
+use Rattle.exactly_once.specs.Opening.{all_of, OpeningHolds, HoldingIsReported}
 use Rattle.exactly_once.proofs.Simulates.{sound_runs}
 use Rattle.exactly_once.proofs.Ordered.{IsOrdered, is_ordered}
 use Rattle.exactly_once.proofs.Reported.{objects_same, results_same}

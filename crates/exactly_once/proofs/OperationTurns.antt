@@ -1,42 +1,37 @@
 -- The turns of the operations' records, but those of transactions.
-use Rattle.std.proofs.Common.{◌≡◌, ◌⊎◌, inl, inr, ⊎_elim, ℕ, zero, suc, ◌+◌, ◌-◌, ◌<◌, ◌≤◌, Bool, true, false, cond, List, [], ◌∷◌, ◌++◌, length, Option, Some, None, option_map, refl, sym, ap, ◌∙◌, subst, arith}
+use Rattle.std.proofs.Common.{◌≡◌, ◌⊎◌, inl, inr, ℕ, suc, false, cond, List, [], ◌∷◌, Option, Some, None, option_map, refl, sym, ap, ◌∙◌, subst}
 use Rattle.std.specs.Prelude.{bytes_eq, option_and_then, unwrap_or}
 use Rattle.lb_base.specs.declared.value.Tag.{Tag}
 use Rattle.lb_base.specs.declared.value.Value.{Value}
-use Rattle.lb_base.specs.declared.value.Outcome.{Outcome}
 use Rattle.boki_types.specs.declared.body.Body.{Body}
 use Rattle.boki_types.specs.declared.body.Body.TheVariants as b
 use Rattle.boki_types.specs.declared.log.Call.{Call}
 use Rattle.boki_types.specs.declared.operation.Op.TheVariants as o
-use Rattle.boki_types.specs.declared.operation.Ask.TheVariants as asks
 use Rattle.boki_types.specs.declared.operation.Answer.{Answer}
 use Rattle.boki_types.specs.declared.operation.Answer.TheVariants as a
 use Rattle.boki_types.specs.declared.plan.Setup.{Setup}
 use Rattle.boki_types.specs.declared.program.Function.{Function}
-use Rattle.boki_types.specs.Finding.{find}
 use Rattle.boki_model.specs.Live.{Live}
 use Rattle.boki_model.specs.Bodies.{child, step_of}
 use Rattle.boki_model.specs.Reads.{or_else}
 use Rattle.boki_model.specs.Maps.{get, put}
 use Rattle.boki_model.specs.Modes as modes
-use Rattle.boki_model.specs.Writes.{Store, Write, write_at, versions_at, if_key, logged_write, here_or_named, last}
+use Rattle.boki_model.specs.Writes.{Store, write_at, versions_at, if_key, logged_write, here_or_named, last}
 use Rattle.boki_model.specs.Folds.{queues, commits, stored, pushed, popped, front}
 use Rattle.boki_machine.specs.Attempt.{call_in, call_of}
-use Rattle.boki_machine.specs.Decided.{Point, unknown, or_none, values_below, function_of, more, joined}
+use Rattle.boki_machine.specs.Decided.{Point, or_none, values_below, joined}
 use Rattle.boki_machine.specs.Turns.{until}
 use Rattle.boki_machine.specs.Ideal.{Invocation, Ideal, invoked}
 use Rattle.boki_machine.specs.Ideal as ideal
 use Rattle.boki_model.proofs.KeyMaps.{get-put_same}
-use Rattle.exactly_once.specs.Sound.{Reaches, Asks, MayWrite, MaySpawn, MayJoin, frees_to, AllFit}
+use Rattle.exactly_once.specs.Sound.{Reaches, MayWrite, MaySpawn, MayJoin, AllFit}
 use Rattle.exactly_once.proofs.Lives.{Under}
 use Rattle.exactly_once.proofs.Maps.{same_itself, get_other, keys_cases, other_way}
 use Rattle.exactly_once.proofs.Stages.{stage_before, stage_other, stage_write}
 use Rattle.exactly_once.proofs.Points.{stands, uncalled, is_called, result_is, IsCalled}
-use Rattle.exactly_once.proofs.Frees.{on}
 use Rattle.exactly_once.proofs.Goes.{AreLast, OthersAre, others_put, IsState, objects_below, put_last}
-use Rattle.exactly_once.proofs.FreeTurns.{running_at}
-use Rattle.exactly_once.proofs.Looks.{open_since, look, look_new, frees, expected, Agrees, Valid, Went}
-use Rattle.exactly_once.proofs.Operations.{stands_apart, numbered_own, others_kept, before_other, frame_other, objects_kept, at_operation, before_own, operation_goes}
+use Rattle.exactly_once.proofs.Looks.{look, look_new, expected, Agrees, Valid, Went}
+use Rattle.exactly_once.proofs.Operations.{stands_apart, numbered_own, others_kept, before_other, frame_other, objects_kept, at_operation, operation_goes}
 
 module _ (setup : Setup) (fs : List Function) (store : Store) where
   -- the failure-free result of an invocation

@@ -1,7 +1,6 @@
 -- The turn of an operation's record: the operation answers as the record says, and then the free operations run.
-use Rattle.std.proofs.Common.{◌≡◌, ◌⊎◌, inl, inr, ⊎_elim, ℕ, zero, suc, ◌+◌, ◌-◌, ◌<◌, ◌≤◌, Bool, true, false, cond, List, [], ◌∷◌, ◌++◌, length, Option, Some, None, option_map, refl, sym, ap, ◌∙◌, subst, arith}
-use Rattle.std.specs.Prelude.{bytes_eq, option_and_then}
-use Rattle.lb_base.specs.declared.value.Value.{Value}
+use Rattle.std.proofs.Common.{◌≡◌, ℕ, suc, ◌+◌, false, cond, List, ◌∷◌, length, Option, Some, None, refl, sym, ap, ◌∙◌, subst, arith}
+use Rattle.std.specs.Prelude.{bytes_eq}
 use Rattle.boki_types.specs.declared.body.Body.{Body}
 use Rattle.boki_types.specs.declared.operation.Op.{Op}
 use Rattle.boki_types.specs.declared.operation.Ask.TheVariants as asks
@@ -11,7 +10,7 @@ use Rattle.boki_types.specs.declared.program.Function.{Function}
 use Rattle.boki_model.specs.Live.{Live}
 use Rattle.boki_model.specs.Bodies.{step_of}
 use Rattle.boki_model.specs.Maps.{get, put}
-use Rattle.boki_model.specs.Writes.{Store, versions_at, if_key, logged_write, last}
+use Rattle.boki_model.specs.Writes.{Store, versions_at, if_key, logged_write}
 use Rattle.boki_model.specs.Folds.{queues, commits, stored}
 use Rattle.boki_machine.specs.Attempt.{call_in}
 use Rattle.boki_machine.specs.Decided.{Point, asked_at, own_answer, and_answer, stepped, advanced, operated}
@@ -19,7 +18,7 @@ use Rattle.boki_machine.specs.Turns.{until}
 use Rattle.boki_machine.specs.Ideal.{Invocation, Ideal, asked_by}
 use Rattle.boki_machine.specs.Ideal as ideal
 use Rattle.boki_model.proofs.KeyMaps.{get-put_same}
-use Rattle.exactly_once.specs.Sound.{Reaches, Asks, frees_to, standing_at, MayStand, StandAt, AllFit}
+use Rattle.exactly_once.specs.Sound.{Reaches, frees_to, standing_at, MayStand, StandAt, AllFit}
 use Rattle.exactly_once.proofs.Lives.{Under}
 use Rattle.exactly_once.proofs.Maps.{same_itself, get_other}
 use Rattle.exactly_once.proofs.Positions.{Numbered}
@@ -28,7 +27,7 @@ use Rattle.exactly_once.proofs.Points.{stands, cursor_within}
 use Rattle.exactly_once.proofs.Frees.{on, long_reaches, index_is}
 use Rattle.exactly_once.proofs.Goes.{AreLast, OthersAre, IsState, Gone, go_one}
 use Rattle.exactly_once.proofs.FreeTurns.{running_at, stand_numbered}
-use Rattle.exactly_once.proofs.Looks.{open_since, expected, Agrees, Next, Valid, frame, look_running, Went, step_turn}
+use Rattle.exactly_once.proofs.Looks.{open_since, expected, Agrees, Valid, frame, look_running, Went, step_turn}
 
 module _ (setup : Setup) (fs : List Function) (store : Store) (x : Live Body) (xs : List (Live Body)) (p : List ℕ) (i : ℕ) (step : step_of x.holds ≡ Some (p, i)) where
   pub stands_apart : (q : List ℕ) → bytes_eq q p ≡ false → stands setup fs store q (x ∷ xs) ≡ stands setup fs store q xs

@@ -1,5 +1,5 @@
 -- The maps of the failure-free execution stay in the order of their keys.
-use Rattle.std.proofs.Common.{◌≡◌, ℕ, zero, suc, Bool, true, false, cond, ◌&&◌, is_lt, List, [], ◌∷◌, map, Option, Some, None, option_map, refl, sym, ap, ◌∙◌, subst}
+use Rattle.std.proofs.Common.{◌≡◌, ℕ, zero, suc, Bool, true, false, ◌&&◌, is_lt, List, [], ◌∷◌, Option, Some, None, option_map, refl, ap, ◌∙◌, subst}
 use Rattle.std.specs.Prelude.{option_and_then}
 use Rattle.std.specs.FinMap.Entries.{below_all, is_sorted}
 use Rattle.lb_base.specs.declared.value.Value.{Value}
@@ -17,7 +17,7 @@ use Rattle.boki_model.specs.MapLaws.{InOrder}
 use Rattle.boki_model.specs.Bodies.{child}
 use Rattle.boki_model.specs.Folds.{written, put_all}
 use Rattle.boki_model.proofs.KeyMaps.{put_in_order}
-use Rattle.boki_machine.specs.Ideal.{Invocation, Ideal, invoked, running, operated, joins, commits, answers, result_of, asked_by, one, go, ended, submitted, turn, ideal, dirtied, dirty_all, succeeds, put_objects, opening, with_invocation}
+use Rattle.boki_machine.specs.Ideal.{Invocation, Ideal, invoked, running, operated, joins, commits, answers, result_of, asked_by, one, go, ended, submitted, turn, ideal, dirty_all, succeeds, put_objects, opening}
 
 pub record IsOrdered (s : Ideal) : Type 0 where
   pub objects : InOrder s.objects

@@ -1,9 +1,9 @@
 -- A record that was sent is ordered.
-use Rattle.std.proofs.Common.{◌≡◌, ◌⊎◌, inl, inr, ⊎_elim, ℕ, zero, suc, ◌<◌, ◌≤◌, Bool, true, false, cond, eqb, leb, ◌&&◌, ◌||◌, List, [], ◌∷◌, length, Option, Some, None, refl, sym, ap, ◌∙◌, subst, arith}
+use Rattle.std.proofs.Common.{◌≡◌, inl, ⊎_elim, ℕ, suc, ◌<◌, Bool, true, false, cond, eqb, ◌||◌, List, [], ◌∷◌, length, Option, Some, None, refl, sym, ap, ◌∙◌, subst, arith}
 use Rattle.std.specs.Prelude.{bytes_eq, slice_index, IsTrue}
 use Rattle.std.specs.List.{filter, AllByRecursion}
 use Rattle.std.proofs.lemmas.Bool.{and_parts, eqb-true, eq-eqb, ne_eqb, or_left, or_right}
-use Rattle.lb_base.specs.Path.{is_path, IsPath}
+use Rattle.lb_base.specs.Path.{IsPath}
 use Rattle.lb_base.specs.declared.value.Tag.{Tag}
 use Rattle.lb_base.specs.declared.value.Mode.{Mode}
 use Rattle.lb_base.specs.declared.value.Mode.TheVariants.{R, W, T}
@@ -18,23 +18,20 @@ use Rattle.boki_types.specs.declared.operation.Ask.{Ask}
 use Rattle.boki_types.specs.declared.operation.Ask.TheVariants as k
 use Rattle.boki_types.specs.declared.plan.Setup.{Setup}
 use Rattle.boki_types.specs.declared.program.Function.{Function}
-use Rattle.boki_model.specs.Live.{Entry, Live, has_tag, count, meets, joined, live, upto, is_live}
-use Rattle.boki_model.specs.Bodies.{step_of, in_range, is_step, is_word, child, call_tag, step_tag, tags_of}
+use Rattle.boki_model.specs.Live.{Entry, Live, has_tag, count, meets, live, upto, is_live}
+use Rattle.boki_model.specs.Bodies.{step_of, in_range, child, call_tag, step_tag, tags_of}
 use Rattle.boki_model.specs.Reads.{or_else}
-use Rattle.boki_model.specs.TagLaws.{first_of}
 use Rattle.boki_model.specs.Writes.{Store, Version, Raised}
 use Rattle.boki_machine.specs.Attempt.{call_in, call_of}
 use Rattle.boki_machine.specs.Decided.{Point, point}
-use Rattle.exactly_once.specs.Sound.{Asks, MaySubmit, MayBegin, MayWrite, MaySpawn, MayJoin, MayCommit, Fits, MayStand, StandAt, frees_to, standing_at, AllFit, IsSound}
-use Rattle.exactly_once.specs.Steps.{OwnTags, IsOwn, at_place, is_step_of, steps_of, AreInOrder}
-use Rattle.exactly_once.specs.Invariant.{World, records, values, marks, AreFenced, Logs, IsNext, IsStep, IsOfKind, IsAsked, FencedBehind, AllFenced, IsAmong, Holds}
-use Rattle.exactly_once.specs.MicroSteps.{orders}
+use Rattle.exactly_once.specs.Sound.{Asks, Fits, MayStand, StandAt, frees_to, standing_at, IsSound}
+use Rattle.exactly_once.specs.Steps.{OwnTags, IsOwn, at_place, steps_of}
+use Rattle.exactly_once.specs.Invariant.{records, values, marks, AreFenced, Logs, IsNext, IsStep, IsOfKind, IsAsked, FencedBehind, AllFenced, IsAmong}
 use Rattle.exactly_once.specs.Orders.{OrdersKeep}
 use Rattle.exactly_once.proofs.Each.{each_weaker}
 use Rattle.exactly_once.proofs.Lives.{Under, live_under}
-use Rattle.exactly_once.proofs.Maps.{same_itself, same_key}
+use Rattle.exactly_once.proofs.Maps.{same_key}
 use Rattle.exactly_once.proofs.Steps.{step_path, in_order}
-use Rattle.exactly_once.proofs.Points.{stands}
 use Rattle.exactly_once.proofs.SamePlace.{IsSamePlace, same_point, same_marks, fit_upto, called_upto, asks_now, place_is, unbegun_marks}
 use Rattle.exactly_once.proofs.Simulates.{live_within}
 use Rattle.exactly_once.proofs.Children.{next_child}

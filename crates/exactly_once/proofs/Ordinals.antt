@@ -1,6 +1,6 @@
 -- A script numbers its children: the ordinal that it asks a spawn with is one more than the number of spawns that were answered.
-use Rattle.std.proofs.Common.{◌≡◌, ◌⊎◌, inl, inr, ⊎_elim, ℕ, zero, suc, ◌+◌, ◌≤◌, Bool, true, false, cond, eqb, leb, ◌&&◌, ◌||◌, List, [], ◌∷◌, length, Option, Some, None, option_map, Result, Ok, Err, refl, sym, ap, ◌∙◌, subst, arith}
-use Rattle.std.specs.Prelude.{ℤ, pos, negsuc, option_and_then, unwrap_or}
+use Rattle.std.proofs.Common.{◌≡◌, ℕ, zero, suc, ◌+◌, Bool, true, false, cond, eqb, leb, ◌&&◌, ◌||◌, List, [], ◌∷◌, length, Option, Some, None, option_map, Result, Ok, Err, refl, ap, ◌∙◌, subst, arith}
+use Rattle.std.specs.Prelude.{pos, option_and_then, unwrap_or}
 use Rattle.std.proofs.lemmas.Bool.{eqb-true}
 use Rattle.lb_base.specs.declared.value.Value.{Value}
 use Rattle.lb_base.specs.declared.value.Value.TheVariants.{Int, Text, Nothing}
@@ -8,19 +8,17 @@ use Rattle.lb_base.specs.declared.value.TrapKind.{TrapKind}
 use Rattle.lb_base.specs.declared.value.TrapKind.TheVariants as trap
 use Rattle.lb_base.specs.declared.value.Outcome.{Outcome}
 use Rattle.lb_base.specs.declared.value.Outcome.TheVariants.{Good, Trap}
-use Rattle.boki_types.specs.declared.expr.Expr.{Expr}
 use Rattle.boki_types.specs.declared.program.Stmt.{Stmt}
 use Rattle.boki_types.specs.declared.program.Stmt.TheVariants as s
 use Rattle.boki_types.specs.declared.program.Function.{Function}
 use Rattle.boki_types.specs.declared.operation.Op.{Op}
 use Rattle.boki_types.specs.declared.operation.Op.TheVariants as o
-use Rattle.boki_types.specs.declared.operation.Ask.{Ask}
 use Rattle.boki_types.specs.declared.operation.Ask.TheVariants as k
 use Rattle.boki_types.specs.declared.operation.Answer.{Answer}
 use Rattle.boki_types.specs.declared.operation.Answer.TheVariants as a
 use Rattle.boki_types.specs.Finding.{find, function_at}
 use Rattle.boki_model.specs.Values.{then_, condition, eval, eval_all, name_of, names_of}
-use Rattle.boki_model.specs.Script.{Block, Branch, Loop, State, Target, Nowhere, One, Each, Standing, Asks, Ended, Flow, Next, Skip, Enter, Stop, set, set_each, opened, closed, or_trap, asks, trapped, tested, unless_none, outside, inside, spawns, joins, paired, firsts, seconds, sides, left_of, ends, execute, Passed, Over, Other, On, pass, go, enter, entries, run, opening, begins, set_target, set_targets, joined_with, answered, continued, resume, standing, ask_of, asked}
+use Rattle.boki_model.specs.Script.{Block, Branch, Loop, State, Target, Nowhere, One, Each, Standing, Asks, Ended, Flow, Next, Skip, Enter, Stop, set, set_each, opened, closed, or_trap, asks, trapped, unless_none, outside, inside, spawns, joins, paired, firsts, seconds, sides, left_of, ends, execute, Passed, Over, Other, On, pass, go, enter, entries, run, opening, begins, set_target, set_targets, joined_with, answered, continued, resume, standing, ask_of, asked}
 
 -- how many spawns were answered
 abbrev pub is_spawned : Answer → ℕ

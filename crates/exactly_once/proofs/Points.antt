@@ -1,8 +1,7 @@
 -- Where an invocation stands, as records are added to a sound log.
-use Rattle.std.proofs.Common.{◌≡◌, ◌⊎◌, inl, inr, ⊎_elim, ℕ, suc, ◌-◌, ◌<◌, ◌≤◌, Bool, true, false, cond, List, [], ◌∷◌, length, Option, Some, None, refl, sym, ap, ◌∙◌, subst, arith}
+use Rattle.std.proofs.Common.{◌≡◌, ℕ, ◌≤◌, Bool, true, false, cond, List, [], ◌∷◌, Option, Some, None, refl, sym, ap, ◌∙◌, subst, arith}
 use Rattle.std.specs.Prelude.{bytes_eq}
 use Rattle.lb_base.specs.declared.value.Tag.{Tag}
-use Rattle.lb_base.specs.declared.value.Value.{Value}
 use Rattle.lb_base.specs.declared.value.Outcome.{Outcome}
 use Rattle.boki_types.specs.declared.body.Body.{Body}
 use Rattle.boki_types.specs.declared.body.Body.TheVariants as b
@@ -16,7 +15,7 @@ use Rattle.boki_model.specs.Reads.{or_else}
 use Rattle.boki_model.specs.Modes.{finish_of, result_of}
 use Rattle.boki_model.specs.Writes.{Store}
 use Rattle.boki_machine.specs.Attempt.{call_in, call_of}
-use Rattle.boki_machine.specs.Decided.{Point, unknown, point, stepped, operated, initiated, finished, function_of, args_of}
+use Rattle.boki_machine.specs.Decided.{Point, unknown, point, operated, initiated, finished, function_of, args_of}
 use Rattle.exactly_once.specs.Sound.{Reaches, Asks, MayBegin, Fits, AllFit}
 use Rattle.exactly_once.proofs.Lives.{Under}
 use Rattle.exactly_once.proofs.Maps.{same_itself, same_key}

@@ -1,8 +1,8 @@
 -- The last write of an object, by the positions of the store's versions and of the live records.
-use Rattle.std.proofs.Common.{◌≡◌, ◌⊎◌, inl, inr, ⊎_elim, ℕ, zero, suc, ◌<◌, ◌≤◌, Bool, true, false, cond, eqb, ◌&&◌, List, [], ◌∷◌, ◌++◌, length, Option, Some, None, option_map, refl, sym, ap, ◌∙◌, subst, arith}
-use Rattle.std.specs.Prelude.{bytes_eq, is_some}
-use Rattle.std.specs.List.{filter, AllByRecursion}
-use Rattle.std.proofs.lemmas.Bool.{eqb-true, eqb-false, eq-eqb, and_parts, and_from, cases_lt}
+use Rattle.std.proofs.Common.{◌≡◌, ⊎_elim, ℕ, suc, ◌<◌, ◌≤◌, Bool, true, false, cond, eqb, ◌&&◌, List, [], ◌∷◌, ◌++◌, length, Option, Some, None, option_map, refl, sym, ap, ◌∙◌, subst, arith}
+use Rattle.std.specs.Prelude.{bytes_eq}
+use Rattle.std.specs.List.{AllByRecursion}
+use Rattle.std.proofs.lemmas.Bool.{eqb-true, eq-eqb, and_parts, and_from, cases_lt}
 use Rattle.std.proofs.lemmas.List.{append_assoc}
 use Rattle.lb_base.specs.declared.value.Value.{Value}
 use Rattle.boki_types.specs.declared.body.Body.{Body}
@@ -12,8 +12,8 @@ use Rattle.boki_model.specs.Maps.{get}
 use Rattle.boki_model.specs.Writes.{Store, Version, Stored, Write, write_at, version, here_or_named, if_key, logged_write, logged_writes, version_writes, initial_writes, writes_of, with, is_below, last_below, last}
 use Rattle.exactly_once.specs.Sound.{standing_at}
 use Rattle.exactly_once.proofs.Tails.{Tail, here, there, tail_cases}
-use Rattle.exactly_once.proofs.Each.{each_append, each_weaker, each_both, each_kept, each_tail, tail_prepend, tail_append}
-use Rattle.exactly_once.proofs.Maps.{same_itself, same_key}
+use Rattle.exactly_once.proofs.Each.{each_append, each_weaker, each_both, each_kept, tail_prepend, tail_append}
+use Rattle.exactly_once.proofs.Maps.{same_itself}
 use Rattle.exactly_once.proofs.Lives.{Under}
 use Rattle.exactly_once.proofs.Lasts.{last_same, last_skip, last_none, not_below_zero, is_below_first, IsTop, Agrees, top_of, below_apart, below_over}
 

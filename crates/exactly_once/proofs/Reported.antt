@@ -1,17 +1,15 @@
 -- The maps of a report, and those of the failure-free state, by their keys.
-use Rattle.std.proofs.Common.{◌≡◌, ◌⊎◌, inl, inr, ⊎_elim, ℕ, zero, suc, ◌<◌, ◌≤◌, Bool, true, false, cond, ltb, ◌&&◌, is_lt, is_eq, List, [], ◌∷◌, ◌++◌, length, Option, Some, None, Ordering, option_map, refl, sym, ap, ◌∙◌, subst, arith}
+use Rattle.std.proofs.Common.{◌≡◌, ◌⊎◌, inl, inr, ℕ, suc, Bool, true, false, cond, ltb, is_lt, is_eq, List, [], ◌∷◌, length, Option, Some, None, Ordering, option_map, refl, sym, ap, ◌∙◌, arith}
 use Rattle.std.specs.Prelude.{bytes_eq, option_and_then}
 use Rattle.std.specs.declared.cmp.Ordering.TheVariants.{Less, Equal, Greater}
 use Rattle.std.specs.List.{AllByRecursion}
 use Rattle.std.specs.FinMap.Entries.{below_all, is_sorted}
-use Rattle.std.proofs.lemmas.Bool.{and_parts, and_from, ltb-true, ltb-false}
+use Rattle.std.proofs.lemmas.Bool.{and_parts, and_from, ltb-false}
 use Rattle.lb_base.specs.declared.value.Value.{Value}
 use Rattle.lb_base.specs.declared.value.Value.TheVariants.{Nothing}
 use Rattle.lb_base.specs.declared.value.Outcome.{Outcome}
 use Rattle.boki_types.specs.declared.body.Body.{Body}
 use Rattle.boki_types.specs.declared.body.Body.TheVariants as b
-use Rattle.boki_types.specs.declared.plan.Setup.{Setup}
-use Rattle.boki_types.specs.declared.program.Function.{Function}
 use Rattle.boki_types.specs.declared.store.Name.{Name}
 use Rattle.boki_model.specs.Live.{Live}
 use Rattle.boki_model.specs.Reads.{or_else}
@@ -22,14 +20,14 @@ use Rattle.boki_model.specs.Writes.{Store, Stored, Version, Write, write_at, her
 use Rattle.boki_model.proofs.KeyMaps.{put_in_order, same_answers}
 use Rattle.boki_machine.specs.Ideal.{Invocation, Ideal, result_of}
 use Rattle.boki_machine.specs.Reports.{objects, results, and_result, result_if_new, pair_with, last_values, and_outcome, ideal_results}
-use Rattle.boki_machine.specs.Machine.{Machine, log, live_log}
+use Rattle.boki_machine.specs.Machine.{log, live_log}
 use Rattle.boki_machine.specs.Turns.{turns}
 use Rattle.exactly_once.specs.Runs.{Runs}
-use Rattle.exactly_once.specs.Reported.{IsReported, ReportsAgree}
+use Rattle.exactly_once.specs.Reported.{ReportsAgree}
 use Rattle.exactly_once.proofs.Simulates.{sound_runs}
 use Rattle.exactly_once.proofs.Ordered.{IsOrdered, is_ordered}
 use Rattle.exactly_once.proofs.Maps.{same_itself, keys_cases, get-put, get_first}
-use Rattle.exactly_once.proofs.Lasts.{not_below_zero, last_none}
+use Rattle.exactly_once.proofs.Lasts.{not_below_zero}
 use Rattle.exactly_once.proofs.Positions.{each_write, logged_stands, StandsAt}
 
 less_apart : (o : Ordering) → is_lt o ≡ true → is_eq o ≡ false

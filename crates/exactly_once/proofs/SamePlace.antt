@@ -1,5 +1,5 @@
 -- An invocation is where it was, while no step record of it comes.
-use Rattle.std.proofs.Common.{◌≡◌, ◌⊎◌, inl, inr, ⊎_elim, ℕ, zero, suc, ◌<◌, ◌≤◌, Bool, true, false, cond, leb, List, [], ◌∷◌, length, Option, Some, None, refl, sym, ap, ◌∙◌, subst, arith}
+use Rattle.std.proofs.Common.{◌≡◌, ℕ, suc, ◌≤◌, Bool, true, false, cond, leb, List, [], ◌∷◌, length, Option, Some, None, refl, sym, ap, ◌∙◌, subst, arith}
 use Rattle.std.specs.Prelude.{bytes_eq}
 use Rattle.std.proofs.lemmas.Bool.{leb-true, leb-false}
 use Rattle.boki_types.specs.declared.body.Body.{Body}
@@ -12,13 +12,13 @@ use Rattle.boki_model.specs.Live.{Live, upto}
 use Rattle.boki_model.specs.Bodies.{step_of}
 use Rattle.boki_model.specs.Writes.{Store, Raised}
 use Rattle.boki_machine.specs.Attempt.{call_of}
-use Rattle.boki_machine.specs.Decided.{Point, unknown, asked_at, more, advanced, stepped}
-use Rattle.exactly_once.specs.Sound.{Reaches, Asks, frees_to, AllFit}
+use Rattle.boki_machine.specs.Decided.{Point, asked_at, more, advanced, stepped}
+use Rattle.exactly_once.specs.Sound.{Asks, frees_to, AllFit}
 use Rattle.exactly_once.specs.Steps.{is_step_of, steps_of}
 use Rattle.exactly_once.specs.Invariant.{marks, marks_by}
 use Rattle.exactly_once.proofs.Maps.{same_itself}
 use Rattle.exactly_once.proofs.Lives.{Under}
-use Rattle.exactly_once.proofs.Points.{stands, Does, does, apart, began, operates, ends, IsApart, unbegun, cursor_within, still_called}
+use Rattle.exactly_once.proofs.Points.{stands, Does, does, apart, began, operates, ends, unbegun, cursor_within, still_called}
 use Rattle.exactly_once.proofs.Frees.{more_older}
 
 -- a record that is no step record of the path leaves its point

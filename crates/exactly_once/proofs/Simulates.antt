@@ -1,10 +1,9 @@
 -- The failure-free execution of a sound log's turns.
-use Rattle.std.proofs.Common.{◌≡◌, ◌⊎◌, inl, inr, ⊎_elim, ℕ, zero, suc, ◌+◌, ◌-◌, ◌<◌, ◌≤◌, Bool, true, false, cond, eqb, ◌||◌, List, [], ◌∷◌, ◌++◌, length, Option, Some, None, option_map, refl, sym, ap, ◌∙◌, subst, arith}
+use Rattle.std.proofs.Common.{◌≡◌, ⊎_elim, ℕ, suc, ◌<◌, ◌≤◌, true, false, eqb, List, [], ◌∷◌, ◌++◌, length, Option, Some, None, refl, sym, ap, ◌∙◌, subst, arith}
 use Rattle.std.specs.Prelude.{bytes_eq, option_and_then, IsTrue}
 use Rattle.std.specs.List.{AllByRecursion}
 use Rattle.std.proofs.lemmas.Bool.{eqb-true, or_cases}
 use Rattle.lb_base.specs.declared.value.Tag.{Tag}
-use Rattle.lb_base.specs.declared.value.Value.{Value}
 use Rattle.boki_types.specs.declared.body.Body.{Body}
 use Rattle.boki_types.specs.declared.body.Body.TheVariants as b
 use Rattle.boki_types.specs.declared.turn.Turn.{Turn}
@@ -12,23 +11,23 @@ use Rattle.boki_types.specs.declared.plan.Setup.{Setup}
 use Rattle.boki_types.specs.declared.program.Function.{Function}
 use Rattle.boki_model.specs.Live.{Live, live, is_live}
 use Rattle.boki_model.specs.Bodies.{step_of}
-use Rattle.boki_model.specs.Maps.{get, put}
-use Rattle.boki_model.specs.Writes.{Store, Version, versions_at, last}
+use Rattle.boki_model.specs.Maps.{get}
+use Rattle.boki_model.specs.Writes.{Store, Version, versions_at}
 use Rattle.boki_machine.specs.Decided.{Point}
 use Rattle.boki_machine.specs.Turns.{turn_of, turns_to, ahead_by}
-use Rattle.boki_machine.specs.Ideal.{Invocation, Ideal, turn, ideal, opening, put_objects}
+use Rattle.boki_machine.specs.Ideal.{Invocation, Ideal, turn, ideal, opening}
 use Rattle.boki_model.proofs.KeyMaps.{get-put_same}
-use Rattle.exactly_once.specs.Sound.{Reaches, frees_to, standing_at, StandAt, AllFit, IsSound}
-use Rattle.exactly_once.specs.Runs.{Runs, SoundRuns}
+use Rattle.exactly_once.specs.Sound.{Reaches, frees_to, standing_at, StandAt, AllFit}
+use Rattle.exactly_once.specs.Runs.{SoundRuns}
 use Rattle.exactly_once.proofs.Lives.{Under, live_under}
-use Rattle.exactly_once.proofs.Maps.{get_other, get-put_objects, keys_cases}
+use Rattle.exactly_once.proofs.Maps.{get_other, get-put_objects}
 use Rattle.exactly_once.proofs.Each.{each_weaker}
 use Rattle.exactly_once.proofs.Positions.{Numbered, last_first}
 use Rattle.exactly_once.proofs.Stages.{stage_rise}
-use Rattle.exactly_once.proofs.Points.{stands, Does, does, apart, began, operates, ends, IsApart, cursor_within}
+use Rattle.exactly_once.proofs.Points.{stands, Does, does, apart, began, operates, ends, cursor_within}
 use Rattle.exactly_once.proofs.Frees.{more_older}
 use Rattle.exactly_once.proofs.FreeTurns.{stand_numbered}
-use Rattle.exactly_once.proofs.Looks.{expected, Agrees, Next, Valid, Went}
+use Rattle.exactly_once.proofs.Looks.{Agrees, Next, Valid}
 use Rattle.exactly_once.proofs.OperationTurns.{expected_result, read_turn, read_all_turn, write_turn, spawn_turn, join_turn, push_turn, pop_turn}
 use Rattle.exactly_once.proofs.Transactions.{begin_turn, commit_turn}
 use Rattle.exactly_once.proofs.Calls.{Turned, quiet, submit_turn, init_turn, end_turn}

@@ -1,15 +1,13 @@
 -- The objects at a record, stage by stage: before it, behind its own operation, behind each version there, and behind all.
-use Rattle.std.proofs.Common.{◌≡◌, ◌⊎◌, inl, inr, ⊎_elim, ℕ, zero, suc, ◌<◌, ◌≤◌, Bool, true, false, cond, eqb, List, [], ◌∷◌, length, Option, Some, None, option_map, refl, sym, ap, ◌∙◌, subst, arith}
+use Rattle.std.proofs.Common.{◌≡◌, ℕ, suc, ◌<◌, ◌≤◌, true, false, eqb, List, [], ◌∷◌, length, Some, None, sym, ap, ◌∙◌, subst, arith}
 use Rattle.std.specs.Prelude.{bytes_eq}
-use Rattle.std.specs.List.{filter, AllByRecursion}
-use Rattle.lb_base.specs.declared.value.Value.{Value}
+use Rattle.std.specs.List.{AllByRecursion}
 use Rattle.boki_types.specs.declared.body.Body.{Body}
 use Rattle.boki_model.specs.Live.{Live}
-use Rattle.boki_model.specs.Writes.{Store, Version, Write, write_at, version, here_or_named, if_key, logged_write, is_below, last}
+use Rattle.boki_model.specs.Writes.{Store, Version, Write, version, if_key, logged_write, last}
 use Rattle.exactly_once.specs.Sound.{standing_at}
-use Rattle.exactly_once.proofs.Tails.{Tail, here, there}
+use Rattle.exactly_once.proofs.Tails.{Tail}
 use Rattle.exactly_once.proofs.Each.{each_weaker}
-use Rattle.exactly_once.proofs.Maps.{same_itself}
 use Rattle.exactly_once.proofs.Lives.{Under}
 use Rattle.exactly_once.proofs.Lasts.{not_below_zero}
 use Rattle.exactly_once.proofs.Positions.{At, at_of, Numbered, numbered_within, numbered_once, found_version, last_behind, last_apart, last_over, last_logged, last_version}

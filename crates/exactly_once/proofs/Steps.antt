@@ -1,18 +1,18 @@
 -- The step records of an invocation are those with its step tag.
-use Rattle.std.proofs.Common.{◌≡◌, ◌⊎◌, inl, inr, ⊎_elim, ℕ, suc, ◌+◌, ◌*◌, ◌^◌, ◌<◌, ◌≤◌, Bool, true, false, cond, eqb, leb, ltb, ◌&&◌, ◌||◌, List, [], ◌∷◌, ◌++◌, length, reverse, Option, Some, None, refl, sym, ap, ◌∙◌, subst, arith}
+use Rattle.std.proofs.Common.{◌≡◌, ◌⊎◌, inl, inr, ℕ, suc, ◌*◌, ◌^◌, ◌<◌, ◌≤◌, Bool, true, false, cond, eqb, leb, ltb, ◌&&◌, ◌||◌, List, [], ◌∷◌, ◌++◌, length, reverse, refl, sym, ap, ◌∙◌, arith}
 use Rattle.std.specs.Prelude.{bytes_eq, slice_get}
 use Rattle.std.specs.List.{list_all, AllByRecursion}
-use Rattle.std.proofs.lemmas.Bool.{and_parts, and_from, ltb-true, leb-true, lt-ltb, ne_eqb, eq-eqb, eqb-true}
+use Rattle.std.proofs.lemmas.Bool.{and_parts, and_from, ltb-true, leb-true, lt-ltb, ne_eqb, eq-eqb}
 use Rattle.lb_base.specs.Path.{is_request, is_ordinal, are_ordinals, is_path, IsPath}
 use Rattle.lb_base.specs.declared.value.Tag.{Tag}
 use Rattle.boki_types.specs.declared.body.Body.{Body}
 use Rattle.boki_types.specs.declared.body.Body.TheVariants as b
 use Rattle.boki_model.specs.Live.{Entry, Live, has_tag, meets, joined, live}
 use Rattle.boki_model.specs.Reads.{tagged}
-use Rattle.boki_model.specs.Bodies.{tags_of, tag_of, tag_number, path_number, name_number, key_tag, call_tag, step_tag, step_of, in_range, is_step, is_word, child}
+use Rattle.boki_model.specs.Bodies.{tag_of, tag_number, path_number, name_number, key_tag, call_tag, step_tag, step_of, in_range, is_step, is_word, child}
 use Rattle.boki_model.proofs.Logs.{length-tagged, places_ascend}
 use Rattle.boki_model.proofs.Tags.{same_numbers, number_below}
-use Rattle.exactly_once.specs.Steps.{OwnTags, at_place, IsOwn, is_step_of, steps_of, AreInOrder, StepsInOrder}
+use Rattle.exactly_once.specs.Steps.{OwnTags, IsOwn, is_step_of, steps_of, AreInOrder, StepsInOrder}
 use Rattle.exactly_once.proofs.Maps.{same_itself, keys_cases}
 
 -- The path of a step record is in range, and that of a child.

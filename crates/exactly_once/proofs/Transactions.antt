@@ -1,5 +1,5 @@
 -- The turns of transactions: names that are dirty since a begin, and what a commit does.
-use Rattle.std.proofs.Common.{◌≡◌, ◌⊎◌, inl, inr, ⊎_elim, ℕ, zero, suc, ◌+◌, ◌-◌, ◌<◌, ◌≤◌, Bool, true, false, cond, ltb, ◌&&◌, ◌||◌, not, List, [], ◌∷◌, ◌++◌, length, map, Option, Some, None, option_map, refl, sym, ap, ◌∙◌, subst, arith}
+use Rattle.std.proofs.Common.{◌≡◌, ◌⊎◌, inl, inr, ⊎_elim, ℕ, suc, ◌<◌, ◌≤◌, Bool, true, false, cond, ltb, ◌&&◌, ◌||◌, not, List, [], ◌∷◌, ◌++◌, Option, Some, None, option_map, refl, sym, ap, ◌∙◌, arith}
 use Rattle.std.specs.Prelude.{bytes_eq}
 use Rattle.std.specs.Ordering.{is_eq}
 use Rattle.std.proofs.lemmas.Bool.{lt-ltb, le-ltb}
@@ -15,24 +15,20 @@ use Rattle.boki_types.specs.declared.plan.Setup.{Setup}
 use Rattle.boki_types.specs.declared.program.Function.{Function}
 use Rattle.boki_model.specs.Live.{Live}
 use Rattle.boki_model.specs.Maps.{key_order, get, put, has}
-use Rattle.boki_model.specs.Writes.{Store, versions_at}
+use Rattle.boki_model.specs.Writes.{Store}
 use Rattle.boki_model.specs.Folds.{Commit, queues, commits, committed, stored, succeeds, written, meet, put_all, values_of}
 use Rattle.boki_machine.specs.Attempt.{call_of}
 use Rattle.boki_machine.specs.Decided.{Point, more, function_of, transaction_behind}
-use Rattle.boki_machine.specs.Turns.{until}
 use Rattle.boki_machine.specs.Ideal.{Invocation, Ideal, Dirty, dirtied, dirty_all}
 use Rattle.boki_machine.specs.Ideal as ideal
 use Rattle.boki_model.proofs.KeyMaps.{get-put_same}
-use Rattle.exactly_once.specs.Sound.{MayCommit, frees_to, AllFit}
+use Rattle.exactly_once.specs.Sound.{MayCommit, AllFit}
 use Rattle.exactly_once.proofs.Lives.{Under}
-use Rattle.exactly_once.proofs.Maps.{get_other}
 use Rattle.exactly_once.proofs.Points.{stands, Does, does, apart, began, operates, ends, cursor_within}
-use Rattle.exactly_once.proofs.Frees.{on}
-use Rattle.exactly_once.proofs.Goes.{OthersAre, others_put, IsState}
-use Rattle.exactly_once.proofs.FreeTurns.{running_at}
-use Rattle.exactly_once.proofs.Looks.{dirty_since, open_since, frees, where_begun, look, expected, Agrees, Valid, frame_with, Went}
+use Rattle.exactly_once.proofs.Goes.{others_put, IsState}
+use Rattle.exactly_once.proofs.Looks.{dirty_since, open_since, frees, where_begun, look, expected, Agrees, frame_with}
 use Rattle.exactly_once.proofs.Operations.{stands_apart, others_kept, before_other, objects_kept, at_operation, operation_goes}
-use Rattle.exactly_once.proofs.OperationTurns.{holding, Turns}
+use Rattle.exactly_once.proofs.OperationTurns.{Turns}
 
 -- A commit succeeds where none of its names is dirty.
 

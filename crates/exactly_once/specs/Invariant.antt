@@ -2,7 +2,7 @@
 -- store, the attempts and the engines' positions. It says nothing of shards, replicas or vectors: any record that was sent may
 -- be ordered next, in any order. Each fact about an invocation is said at a seqnum c, of the records up to c, since these never
 -- change.
-use Rattle.std.specs.Prelude.{◌≡◌, ◌⊎◌, ℕ, zero, suc, ◌+◌, ◌-◌, ◌≤◌, ◌<◌, IsTrue, Bool, true, false, List, [], ◌∷◌, ◌++◌, length, Option, Some, None, slice_index, bytes_eq, cond}
+use Rattle.std.specs.Prelude.{◌≡◌, ◌⊎◌, ℕ, suc, ◌+◌, ◌-◌, ◌≤◌, ◌<◌, Bool, true, false, List, [], ◌∷◌, length, Option, Some, None, slice_index, bytes_eq, cond}
 use Rattle.std.specs.List.{AllByRecursion}
 use Rattle.lb_base.specs.declared.value.Value.{Value}
 use Rattle.lb_base.specs.declared.value.Mode.{Mode}
@@ -12,15 +12,13 @@ use Rattle.lb_base.specs.declared.value.Cond.{Cond}
 use Rattle.boki_types.specs.declared.body.Body.{Body}
 use Rattle.boki_types.specs.declared.body.Body.TheVariants as b
 use Rattle.boki_types.specs.declared.line.Life.{Life}
-use Rattle.boki_types.specs.declared.line.Life.TheVariants.{Running, Over, Stopped, Killed}
-use Rattle.boki_types.specs.declared.operation.Op.{Op}
+use Rattle.boki_types.specs.declared.line.Life.TheVariants.{Running}
 use Rattle.boki_types.specs.declared.operation.Op.TheVariants as o
 use Rattle.boki_types.specs.declared.operation.Ask.{Ask}
 use Rattle.boki_types.specs.declared.operation.Ask.TheVariants as k
 use Rattle.boki_types.specs.declared.operation.Answer.{Answer}
 use Rattle.boki_types.specs.declared.plan.Setup.{Setup}
 use Rattle.boki_types.specs.declared.program.Function.{Function}
-use Rattle.boki_types.specs.declared.store.Name.{Name}
 use Rattle.boki_types.specs.Finding.{find}
 use Rattle.boki_model.specs.Live.{Entry, Live, live, upto}
 use Rattle.boki_model.specs.Bodies.{child, step_of, call_tag}
@@ -30,7 +28,7 @@ use Rattle.boki_model.specs.Floor.{floor}
 use Rattle.boki_model.specs.Writes.{Store, Raised, fence, value_of, version}
 use Rattle.boki_machine.specs.Attempt.{Attempt}
 use Rattle.boki_machine.specs.Decided.{Point, point, more, asked_at}
-use Rattle.exactly_once.specs.Sound.{frees_to, standing_at, Asks, MayBegin, MayWrite, MayCommit, IsSound}
+use Rattle.exactly_once.specs.Sound.{standing_at, Asks, MayBegin, MayWrite, MayCommit, IsSound}
 use Rattle.exactly_once.specs.Steps.{IsOwn, at_place}
 
 -- a state, apart from shards and vectors; `log` has the newest first, and `sent` all records that were ever sent, in any order

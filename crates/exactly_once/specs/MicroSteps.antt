@@ -1,10 +1,10 @@
 -- What events are made of: small changes of a state, each of which keeps the invariant.
-use Rattle.std.specs.Prelude.{◌≡◌, ℕ, ◌≤◌, false, List, [], ◌∷◌, length}
+use Rattle.std.specs.Prelude.{◌≡◌, ℕ, ◌≤◌, false, List, ◌∷◌, length}
 use Rattle.std.specs.List.{AllByRecursion}
 use Rattle.boki_types.specs.declared.body.Body.{Body}
 use Rattle.boki_types.specs.declared.plan.Setup.{Setup}
 use Rattle.boki_types.specs.declared.program.Function.{Function}
-use Rattle.boki_model.specs.Live.{Entry, Live, meets}
+use Rattle.boki_model.specs.Live.{Entry, meets}
 use Rattle.boki_model.specs.Floor.{floor}
 use Rattle.boki_model.specs.Writes.{raised, swept}
 use Rattle.boki_machine.specs.Attempt.{Attempt, new_attempt}

@@ -1,10 +1,8 @@
 -- The invariant of a machine: it holds at the opening, and where it holds the reports agree.
-use Rattle.std.specs.Prelude.{◌≡◌, ℕ, List, [], ◌∷◌, ◌++◌, map}
+use Rattle.std.specs.Prelude.{ℕ, List, [], ◌∷◌, ◌++◌, map}
 use Rattle.lb_base.specs.declared.value.Value.{Value}
-use Rattle.boki_types.specs.declared.body.Body.{Body}
 use Rattle.boki_types.specs.declared.plan.Setup.{Setup}
 use Rattle.boki_types.specs.declared.program.Function.{Function}
-use Rattle.boki_model.specs.Live.{Entry}
 use Rattle.boki_machine.specs.Machine.{Machine, opening, log}
 use Rattle.exactly_once.specs.Invariant.{World, Holds}
 use Rattle.exactly_once.specs.Reported.{IsReported}
@@ -17,7 +15,11 @@ all_of (s ∷ ss) = s ++ all_of ss
 -- what the invariant sees of a machine
 abbrev pub world_of : Machine → World
 world_of m = record {
-  log = log m; sent = all_of m.shards; store = m.store; attempts = map (λ x. x.attempt) m.attempts; positions = m.positions
+  log = log m;
+  sent = all_of m.shards;
+  store = m.store;
+  attempts = map (λ x. x.attempt) m.attempts;
+  positions = m.positions;
 }
 
 abbrev pub OpeningHolds : Type 0

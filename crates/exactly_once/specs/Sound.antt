@@ -1,23 +1,20 @@
 -- When a log and a store are sound: each live record says what the script of its invocation does next, by what the records
 -- behind it and the versions have decided; and each version is the next free write of an invocation. These are the facts that
 -- the failure-free execution needs. They are of the whole store, and of one moment: nothing here speaks of attempts.
-use Rattle.std.specs.Prelude.{◌≡◌, ℕ, suc, ◌-◌, ◌==◌, IsTrue, Bool, true, false, List, [], ◌∷◌, length, Option, Some, None, slice_index}
+use Rattle.std.specs.Prelude.{◌≡◌, ℕ, suc, ◌-◌, ◌==◌, IsTrue, true, false, List, [], ◌∷◌, length, Option, Some, None, slice_index}
 use Rattle.std.specs.List.{filter, AllByRecursion}
 use Rattle.lb_base.specs.declared.value.Value.{Value}
 use Rattle.lb_base.specs.declared.value.Mode.{Mode}
-use Rattle.lb_base.specs.declared.value.Mode.TheVariants.{R, W, T}
+use Rattle.lb_base.specs.declared.value.Mode.TheVariants.{W}
 use Rattle.lb_base.specs.declared.value.Outcome.{Outcome}
 use Rattle.boki_types.specs.declared.body.Body.{Body}
 use Rattle.boki_types.specs.declared.body.Body.TheVariants as b
 use Rattle.boki_types.specs.declared.log.Call.{Call}
-use Rattle.boki_types.specs.declared.operation.Op.{Op}
 use Rattle.boki_types.specs.declared.operation.Op.TheVariants as o
 use Rattle.boki_types.specs.declared.operation.Ask.{Ask}
 use Rattle.boki_types.specs.declared.operation.Ask.TheVariants as k
-use Rattle.boki_types.specs.declared.operation.Answer.{Answer}
 use Rattle.boki_types.specs.declared.plan.Setup.{Setup}
 use Rattle.boki_types.specs.declared.program.Function.{Function}
-use Rattle.boki_types.specs.declared.store.Name.{Name}
 use Rattle.boki_types.specs.Finding.{find}
 use Rattle.boki_model.specs.Live.{Live, is_live}
 use Rattle.boki_model.specs.Bodies.{child, step_of}

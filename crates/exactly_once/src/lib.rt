@@ -54,11 +54,9 @@ ghost use Rattle.exactly_once.specs.Opening.{OpeningHolds, HoldingIsReported};
 /// The invariant holds at the opening.
 pub fn opening_holds()
     ensures { OpeningHolds }
-{
-}
+{}
 
 /// Where the invariant holds, the machine's report is that of the failure-free execution of its turns.
 pub fn holding_is_reported()
     ensures { HoldingIsReported }
-{
-}
+{}
