@@ -2,6 +2,8 @@
 #![tactic(auto)]
 
 mod lists;
+#[cfg(test)]
+mod tests;
 
 ghost use Rattle.std.specs.Prelude.{◌≡◌, ℕ, List, [], ◌∷◌, length, OnOk, OnErr, IsOkAnd, option_map};
 ghost use Rattle.boki_model.specs.Live.{Entry, entry_of, live, count, is_live};
