@@ -1,1 +1,3 @@
 pub mod Exclusion
+pub mod Sound
+pub mod Runs

@@ -13,3 +13,10 @@ pub fn modes_exclude()
 pub fn floors_pass()
     ensures { FloorsPass }
 {}
+
+ghost use Rattle.exactly_once.specs.Runs.{SoundRuns};
+
+/// The failure-free execution of a sound log's turns is defined, and comes to what the log and the store say.
+pub fn sound_runs()
+    ensures { SoundRuns }
+{}
