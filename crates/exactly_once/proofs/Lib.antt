@@ -16,3 +16,6 @@ pub mod OperationTurns
 pub mod Transactions
 pub mod Calls
 pub mod Simulates
+pub mod Steps
+pub mod Ordered
+pub mod Reported

@@ -39,7 +39,7 @@ module _ {V : Type 0} where
   pub get_other : (q k : List ℕ) (v : V) (m : List (List ℕ × V)) → bytes_eq q k ≡ false → get q (put k v m) ≡ get q m
   get_other q k v m e = get-put q k v m ∙ ap (λ b. cond b (Some v) (get q m)) e
 
-  get_first : (q : List ℕ) (x : List ℕ × V) (m : List (List ℕ × V)) → get q (x ∷ m) ≡ cond (bytes_eq q x.0) (Some x.1) (get q m)
+  pub get_first : (q : List ℕ) (x : List ℕ × V) (m : List (List ℕ × V)) → get q (x ∷ m) ≡ cond (bytes_eq q x.0) (Some x.1) (get q m)
   get_first q x m = ap (λ b. cond b (Some x.1) (get q m)) (is_eq-slice_cmp q x.0)
 
   -- the objects of a list, as a map

@@ -19,11 +19,11 @@ use Rattle.exactly_once.proofs.Lasts.{last_same, last_skip, last_none, not_below
 
 -- What holds of every write of an object.
 
-record StandsAt (seq : ℕ) (w : Write) : Type 0 where
+pub record StandsAt (seq : ℕ) (w : Write) : Type 0 where
   pub first_is : w.first ≡ seq
   pub second_is : w.second ≡ 0
 
-logged_stands : (key : List ℕ) (seq : ℕ) (named : List Stored) (o : Option (List ℕ × (Name × Option Value))) (w : Write) → if_key key seq named o ≡ Some w → StandsAt seq w
+pub logged_stands : (key : List ℕ) (seq : ℕ) (named : List Stored) (o : Option (List ℕ × (Name × Option Value))) (w : Write) → if_key key seq named o ≡ Some w → StandsAt seq w
 logged_stands key seq named None w e = cc
 logged_stands key seq named (Some l) w e = at (bytes_eq key l.0) (here_or_named l.1.1 l.1.0 named) e
   where
@@ -48,15 +48,15 @@ each_logged : (P : Write → Type 0) (key : List ℕ) (named : List Stored) (xs 
 each_logged P key named [] each = tt
 each_logged P key named (x ∷ xs) each = each_with P (if_key key x.seq named (logged_write x.holds)) (logged_writes key named xs) each.0 (each_logged P key named xs each.1)
 
-each_initial : (P : Write → Type 0) (o : Option Value) → ((v : Value) → P (write_at 0 0 v)) → AllByRecursion P (with (option_map (write_at 0 0) o) [])
+each_initial : (P : Write → Type 0) (o : Option Value) → ((v : Value) → o ≡ Some v → P (write_at 0 0 v)) → AllByRecursion P (with (option_map (write_at 0 0) o) [])
 each_initial P None one = tt
-each_initial P (Some v) one = (one v, tt)
+each_initial P (Some v) one = (one v refl, tt)
 
-each_write :
+pub each_write :
     (P : Write → Type 0) (key : List ℕ) (store : Store) (xs : List (Live Body))
     → AllByRecursion (λ v. bytes_eq key v.key ≡ true → P (write_at v.cursor v.k v.value)) store.versions
     → AllByRecursion (λ x. (w : Write) → if_key key x.seq store.named (logged_write x.holds) ≡ Some w → P w) xs
-    → ((v : Value) → P (write_at 0 0 v)) → AllByRecursion P (writes_of key store xs)
+    → ((v : Value) → get key store.initial ≡ Some v → P (write_at 0 0 v)) → AllByRecursion P (writes_of key store xs)
 each_write P key store xs versions logged initial =
     each_append P (version_writes key store.versions ++ logged_writes key store.named xs) (initial_writes key store.initial)
     (each_append P (version_writes key store.versions) (logged_writes key store.named xs) (each_version P key store.versions versions) (each_logged P key store.named xs logged))
@@ -176,7 +176,7 @@ module _ (store : Store) (key : List ℕ) where
     each_here P versions own older =
         each_write P key store (x ∷ xs) versions
         (own, each_below P key store.named m xs under (λ w le zero_is. older w (omega (arith, le, is_seq)) zero_is))
-        (λ v. older (write_at 0 0 v) (omega (arith, is_seq)) refl)
+        (λ v e. older (write_at 0 0 v) (omega (arith, is_seq)) refl)
 
     -- where no write of the object is at (seq, k), the next position has the same last one
     pub last_apart :

@@ -1,3 +1,5 @@
 pub mod Exclusion
 pub mod Sound
 pub mod Runs
+pub mod Reported
+pub mod Steps

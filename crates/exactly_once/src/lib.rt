@@ -20,3 +20,17 @@ ghost use Rattle.exactly_once.specs.Runs.{SoundRuns};
 pub fn sound_runs()
     ensures { SoundRuns }
 {}
+
+ghost use Rattle.exactly_once.specs.Steps.{StepsInOrder};
+
+/// The live step records of an invocation have the places 0, 1, .. in ascending seqnums.
+pub fn steps_in_order()
+    ensures { StepsInOrder }
+{}
+
+ghost use Rattle.exactly_once.specs.Reported.{ReportsAgree};
+
+/// The report of a machine with a sound log is that of the failure-free execution of its turns.
+pub fn reports_agree()
+    ensures { ReportsAgree }
+{}

@@ -1,0 +1,5 @@
+use Rattle.exactly_once.proofs.Steps.{steps_in_order}
+use Rattle.exactly_once.proofs.steps_in_order.Goals as goal
+
+pub returns : goal.returns
+returns c = steps_in_order

@@ -1,0 +1,44 @@
+-- The step records of an invocation in the log: each live one stands at the place that it was sent for.
+use Rattle.std.specs.Prelude.{◌≡◌, ℕ, ◌^◌, ◌==◌, nat_lt, IsTrue, Bool, false, cond, List, [], ◌∷◌, length, reverse, Option, Some, None, bytes_eq, slice_get}
+use Rattle.std.specs.List.{list_all, AllByRecursion}
+use Rattle.lb_base.specs.Path.{IsPath}
+use Rattle.lb_base.specs.declared.value.Tag.{Tag}
+use Rattle.lb_base.specs.declared.value.Cond.{Cond}
+use Rattle.boki_types.specs.declared.body.Body.{Body}
+use Rattle.boki_types.specs.declared.body.Body.TheVariants as b
+use Rattle.boki_model.specs.Live.{Entry, Live, meets, live}
+use Rattle.boki_model.specs.Reads.{nth_seq}
+use Rattle.boki_model.specs.Bodies.{tags_of, tag_of, path_number, step_tag, step_of, in_range}
+
+-- a record carries the tags of what it says; a user's record has tags of the class 0, which are below 2^56
+abbrev pub OwnTags : Body → List Tag → Type 0
+OwnTags (b.User bytes) tags = IsTrue (list_all (λ t. nat_lt t.0 (2 ^ 56)) tags)
+OwnTags body tags = tags ≡ tags_of body
+
+-- the condition that a place of the invocation's step log is free
+abbrev pub at_place : List ℕ → ℕ → Option Cond
+at_place path place = Some (record { tag = tag_of 2 (path_number path); place = place })
+
+-- a record as the runtime sends it
+pub record IsOwn (r : Entry Body) : Type 0 where
+  pub tags : OwnTags r.holds r.tags
+  pub range : IsTrue (in_range r.holds)
+
+abbrev pub is_step_of : List ℕ → Option (List ℕ × ℕ) → Bool
+is_step_of path None = false
+is_step_of path (Some s) = bytes_eq path s.0
+
+-- the seqnums of an invocation's step records, the newest first
+abbrev pub steps_of : List ℕ → List (Live Body) → List ℕ
+steps_of path [] = []
+steps_of path (x ∷ xs) = cond (is_step_of path (step_of x.holds)) (x.seq ∷ steps_of path xs) (steps_of path xs)
+
+-- Of a list of records as the runtime sends them:
+pub record AreInOrder (log : List (Entry Body)) (path : List ℕ) : Type 0 where
+  -- what stands at a place of the step tag is the invocation's live step record of that number, from 0 in ascending seqnums
+  pub at : (place : ℕ) → nth_seq (step_tag path) place (live log) ≡ slice_get (reverse (steps_of path (live log))) place
+  -- and a step record that is ordered next is live exactly where its place is the number of those before it
+  pub next : (place : ℕ) → meets (at_place path place) (live log) ≡ (place == length (steps_of path (live log)))
+
+abbrev pub StepsInOrder : Type 0
+StepsInOrder = (log : List (Entry Body)) (path : List ℕ) → AllByRecursion IsOwn log → IsPath path → AreInOrder log path
