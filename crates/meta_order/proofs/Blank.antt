@@ -1,5 +1,5 @@
 -- Shards with as many records as a vector counts.
-use Rattle.std.proofs.Common.{◌≡◌, ℕ, zero, suc, ◌≤◌, List, [], ◌∷◌, length, replicate, refl, ap, arith}
+use Rattle.std.proofs.Common.{◌≡◌, ℕ, zero, suc, List, length, refl, ap, arith}
 use Rattle.std.proofs.lemmas.List.{length-replicate}
 use Rattle.boki_model.specs.Order.{first_count, other_counts, last_vector}
 use Rattle.boki_model.specs.OrderLaws.{Have}
