@@ -19,3 +19,5 @@ pub mod Simulates
 pub mod Steps
 pub mod Ordered
 pub mod Reported
+pub mod Later
+pub mod MicroSteps

@@ -34,3 +34,10 @@ ghost use Rattle.exactly_once.specs.Reported.{ReportsAgree};
 pub fn reports_agree()
     ensures { ReportsAgree }
 {}
+
+ghost use Rattle.exactly_once.specs.MicroSteps.{MicroStepsKeep};
+
+/// The small changes that events are made of keep the invariant.
+pub fn micro_steps_keep()
+    ensures { MicroStepsKeep }
+{}
