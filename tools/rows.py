@@ -1,403 +1,18 @@
 #!/usr/bin/env python3
 """Makes the terms of crates/model_rows from the worked examples.
 
-Each examples/NAME.plan is a plan, whose first line is a comment that says what it shows, and examples/NAME.out is what
-a run of it writes. For each the script writes specs/NAME.antt, the plan, the lines and the report as terms, and the
-proof that they come out by computation; and it writes src/lib.rt and the Lib.antt. Then run `rt fmt` in crates/model_rows.
+Each examples/NAME.plan with an examples/NAME.out is a plan, whose first line is a comment that says what it shows, and
+what a run of it writes. For each the script writes specs/NAME.antt, the plan, the lines and the report as terms, and the
+proof that they come out by computation; and it writes src/lib.rt and specs/Lib.antt. tools/terms.py reads the texts.
+Run it, and then `rt fmt` in crates/model_rows.
 """
 import pathlib
 import re
 
+from terms import Example, definition, fielded, items, listed, record
+
 TOP = pathlib.Path(__file__).resolve().parent.parent
 CRATE = TOP / "crates" / "model_rows"
-TOKEN = re.compile(r'\s*("(?:[^"\\]|\\.)*"|\d+(?:\.\d+)+|\d+|\w+|==|!=|<=|>=|\+\+|.)')
-
-# ---- terms
-
-def arg(term):
-    """A term as an argument."""
-    return f"({term})" if " " in term else term
-
-def call(head, *terms):
-    return " ".join([head] + [arg(t) for t in terms])
-
-def items(terms):
-    return " ∷ ".join(list(terms) + ["[]"])
-
-def record(**fields):
-    return "record { " + "; ".join(f"{name} = {term}" for name, term in fields.items()) + " }"
-
-def pair(a, b):
-    return f"({a}, {b})"
-
-def integer(n):
-    return f"pos {n}" if n >= 0 else f"negsuc {-n - 1}"
-
-def codes(text):
-    return f'codes "{text}"'
-
-def listed(terms):
-    """A list, a term a line, as the body of a definition."""
-    return "\n" + "".join(f"    {term} ∷\n" for term in terms) + "    []" if terms else " []"
-
-def definition(name, kind, body):
-    return f"\nabbrev pub {name} : {kind}\n{name} ={body}\n"
-
-# ---- tokens of a line
-
-class Line:
-    def __init__(self, text):
-        self.tokens = TOKEN.findall(text)
-
-    def peek(self):
-        return self.tokens[0] if self.tokens else ""
-
-    def take(self):
-        return self.tokens.pop(0)
-
-    def has(self, token):
-        if self.peek() != token:
-            return False
-        self.take()
-        return True
-
-    def want(self, *tokens):
-        for token in tokens:
-            assert self.has(token), (token, self.tokens)
-
-    def number(self):
-        return self.take()
-
-    def text(self):
-        return codes(self.take()[1:-1])
-
-    def name(self):
-        return codes(self.take())
-
-    def path(self):
-        return items(self.take().split("."))
-
-    def sent(self):
-        shard, local = self.take().split(".")
-        return call("sent", shard, local)
-
-    def integer(self):
-        return integer(-int(self.take()) if self.has("-") else int(self.take()))
-
-    def value(self):
-        if self.has("none"):
-            return "Nothing"
-        if self.peek().startswith('"'):
-            return call("Text", self.text())
-        return call("Int", self.integer())
-
-    def outcome(self):
-        if self.has("trap"):
-            return call("Trap", "trap." + self.take().capitalize())
-        self.want("value")
-        return call("Good", self.value())
-
-    def many(self, one, close=""):
-        """What stands between commas, up to the closing token or the line's end."""
-        found = []
-        while self.peek() != close:
-            found.append(one())
-            if not self.has(","):
-                break
-        if close:
-            self.want(close)
-        return items(found)
-
-    def call(self, one):
-        """A function's name, and the list between its parentheses."""
-        name = self.take()
-        self.want("(")
-        return name, self.many(one, ")")
-
-    def given(self, separator="="):
-        """A name and a value."""
-        name = self.text()
-        self.has(separator)
-        return pair(name, self.value())
-
-# ---- expressions, by the level of their operators
-
-LEVELS = [
-    {"or": "Or"}, {"and": "And"}, {}, {"==": "Eq", "!=": "Ne", "<=": "Le", ">=": "Ge", "<": "Lt", ">": "Gt"},
-    {"+": "Add", "-": "Sub", "++": "Glue"}, {"*": "Mul", "/": "Div", "%": "Rem"},
-]
-
-def expression(line, level=0):
-    if level == len(LEVELS):
-        return atom(line)
-    if level == 2 and line.has("not"):
-        return call("expr.Not", expression(line, 2))
-    left = expression(line, level + 1)
-    while line.peek() in LEVELS[level]:
-        operator = LEVELS[level][line.take()]
-        left = call("expr.Two", "op." + operator, left, expression(line, level + 1))
-    return left
-
-def atom(line):
-    token = line.peek()
-    if line.has("("):
-        inner = expression(line)
-        line.want(")")
-        return inner
-    if token in ("text", "len"):
-        line.take()
-        line.want("(")
-        inner = expression(line)
-        line.want(")")
-        return call("expr.TextOf" if token == "text" else "expr.Len", inner)
-    if line.has("none"):
-        return "expr.Nothing"
-    if token.startswith('"'):
-        return call("expr.Text", line.text())
-    if token == "-" or token.isdigit():
-        return call("expr.Int", line.integer())
-    return call("expr.Var", line.name())
-
-# ---- statements and functions
-
-def sides(line, left):
-    first = left()
-    line.want("=")
-    return pair(first, expression(line))
-
-def statement(text):
-    line = Line(text)
-    e = lambda: expression(line)
-    word = line.take()
-    if word in ("else", "end"):
-        return "stmt." + word.capitalize()
-    if word in ("if", "while", "return"):
-        return call("stmt." + word.capitalize(), e())
-    if word in ("write", "push"):
-        first = e()
-        line.want(",")
-        return call("stmt." + word.capitalize(), first, e())
-    if word == "begin":
-        return call("stmt.Begin", line.many(lambda: sides(line, line.name)))
-    if word == "read":
-        line.want("all")
-        return call("stmt.ReadAll", line.many(lambda: sides(line, line.name)))
-    assert word == "let", text
-    variable = line.name()
-    line.want("=")
-    if line.peek() in ("read", "join", "pop"):
-        return call("stmt." + line.take().capitalize(), variable, e())
-    if line.has("spawn"):
-        name, terms = line.call(e)
-        return call("stmt.Spawn", variable, codes(name), terms)
-    if line.has("commit"):
-        return call("stmt.Commit", variable, line.many(lambda: sides(line, e)))
-    return call("stmt.Let", variable, e())
-
-class Function:
-    def __init__(self, head, body):
-        line = Line(head)
-        line.want("function")
-        self.name, self.params = line.call(line.name)
-        self.lines = [statement(text) for text in body]
-
-    def text(self):
-        """Its lines and the function, as two definitions."""
-        lines = definition(f"{self.name}_lines", "List Stmt", listed(self.lines))
-        whole = record(name=codes(self.name), params=self.params, lines=f"{self.name}_lines")
-        return lines + definition(f"{self.name}_function", "Function", f" {whole}")
-
-# ---- events
-
-def event(text, functions):
-    line = Line(text)
-    word, n = line.take(), line.number
-    head = "event." + {"endswitch": "EndSwitch", "trimtag": "TrimTag", "setaux": "SetAux", "getaux": "GetAux"}.get(word, word.capitalize())
-    if word in ("cut", "sync"):
-        return head
-    if word == "submit":
-        engine, request = n(), n()
-        name, args = line.call(line.value)
-        return call(head, engine, request, str(functions.index(name)), args)
-    first = n()
-    if word == "copy":
-        return call(head, first, n(), n())
-    if word == "start":
-        return call(head, first, line.path(), n())
-    if word == "switch":
-        return call(head, first, line.take())
-    if word in ("append", "cond"):
-        place = [n()] if word == "cond" else []
-        tags = [call("tag", n())]
-        while line.has(","):
-            tags.append(call("tag", n()))
-        return call(head, first, *place, items(tags), line.text())
-    if word in ("next", "prev", "trimtag"):
-        return call(head, first, call("tag", n()), call("seqnum", n()))
-    if word == "tail":
-        return call(head, first, call("tag", n()))
-    if word == "settled":
-        return call(head, first, *line.take().split("."))
-    if word == "setaux":
-        return call(head, first, call("seqnum", n()), line.text())
-    if word == "getaux":
-        return call(head, first, call("seqnum", n()))
-    assert not line.tokens, text
-    return call(head, first)
-
-# ---- answers
-
-STEPS = {"send", "adopt", "over", "waits", "put", "late", "store", "read", "stopped"}
-
-def answer(text, by_step, event_word, functions):
-    line = Line(text)
-    word = line.peek()
-    if by_step and word in STEPS | {"idle"}:
-        return call("line.Step", step_line(line, functions))
-    if word.isdigit() or (word.startswith('"') and event_word != "getaux"):
-        return call("line.Found", call("seqnum", line.take()), line.text())
-    if word.startswith('"'):
-        return call("line.Aux", line.text())
-    line.take()
-    if word == "sent":
-        at = line.sent()
-        return call("line.Trimmed", at, call("seqnum", line.number())) if line.has("trim") else call("line.Sent", at)
-    if word == "cut":
-        return call("line.Cut", line.number(), line.number())
-    if word in ("placed", "taken"):
-        return call("line." + word.capitalize(), call("seqnum", line.number()))
-    if word in ("copied", "at", "sync", "restarted"):
-        return call("line." + word.capitalize(), line.number())
-    if word == "floor":
-        low = call("seqnum", line.number())
-        line.want("held")
-        return call("line.Floor", low, line.number())
-    if word == "missed":
-        return call("line.Missed", "miss." + line.take().capitalize())
-    if word == "idle" and event_word == "miss":
-        return call("line.Missed", "miss.Idle")
-    if word == "unfinished":
-        return call("line.Unfinished", line.path())
-    return "line." + {"none": "Absent"}.get(word, word.capitalize())
-
-def step_line(line, functions):
-    word = line.take()
-    values = lambda: line.many(line.given)
-    texts = lambda: line.many(line.text)
-    if word == "idle":
-        return "step.Idle"
-    if word == "over":
-        return call("step.Over", line.outcome())
-    if word == "stopped":
-        return "step.StoppedGone"
-    if word == "waits":
-        what = line.take()
-        return call("step.WaitsJoin", line.path()) if what == "join" else "step.Waits" + what.capitalize()
-    if word == "read" and line.has("all"):
-        return call("step.ReadAll", values())
-    if word in ("read", "store"):
-        return call("step." + word.capitalize(), line.text(), line.value())
-    if word == "late":
-        return call("step.Late", line.text())
-    if word == "put":
-        key, value = line.text(), line.value()
-        line.want("at")
-        cursor, k = line.take().split(".")
-        return call("step.Put", key, value, call("seqnum", cursor), k)
-    at = line.sent() if word == "send" else call("seqnum", line.number())
-    what = line.take()
-    head = f"step.{word.capitalize()}{what.capitalize()}"
-    if what == "read" and line.has("all"):
-        return call(head + "All", at, texts() if word == "send" else values())
-    if what == "init":
-        return call(head, at) if word == "send" else call(head, at, line.take())
-    if what == "finish":
-        return call(head, at, line.outcome())
-    if what == "spawn":
-        path = line.path()
-        if word == "adopt":
-            return call(head, at, path)
-        name, args = line.call(line.value)
-        return call(head, at, path, str(functions.index(name)), args)
-    if what == "join":
-        return call(head, at, line.path()) if word == "send" else call(head, at, line.path(), line.outcome())
-    if what == "begin":
-        return call(head, at, texts() if word == "send" else values())
-    if what == "commit":
-        return call(head, at, values()) if word == "send" else call(head, at, {"1": "true", "0": "false"}[line.take()])
-    key = line.text()
-    if head == "step.SendWrite":
-        return call(head, at, key, call("Some", line.value()) if line.tokens else "None")
-    return call(head, at, key, line.value()) if line.tokens else call(head, at, key)
-
-def report(rows, functions):
-    turns, results, objects, queues, stores = [], [], [], [], []
-    for text in rows:
-        line = Line(text)
-        word = line.take()
-        if word == "turn":
-            turns.append(turn(line, functions))
-        elif word == "result":
-            results.append(pair(line.path(), line.outcome()))
-        elif word == "object":
-            objects.append(line.given(""))
-        elif word == "queue":
-            name = line.text()
-            line.want("[")
-            queues.append(pair(name, line.many(line.value, "]")))
-        else:
-            stores.append(line.given(""))
-    return dict(turns=items(turns), results=items(results), objects=items(objects), queues=items(queues), stores=items(stores))
-
-def turn(line, functions):
-    word = line.take()
-    if word == "submit":
-        request = line.number()
-        name, args = line.call(line.value)
-        return call("turn.Submit", request, str(functions.index(name)), args)
-    path = line.path()
-    return call("turn.Go", path, line.number()) if word == "go" else call("turn.End", path)
-
-# ---- a plan and its output
-
-class Example:
-    def __init__(self, source):
-        self.name = source.stem
-        self.module = "".join(part.capitalize() for part in self.name.split("_"))
-        rows = [row.strip() for row in source.read_text().splitlines()]
-        self.shows = rows[0].lstrip("# ")
-        rows = [row for row in rows if row and not row.startswith("#")]
-        cut = rows.index("events")
-        self.head(rows[:cut])
-        self.events = [event(row, self.names) for row in rows[cut + 1:]]
-        self.output(source.with_suffix(".out").read_text().splitlines(), [row.split()[0] for row in rows[cut + 1:]])
-
-    def head(self, rows):
-        line = Line(rows[0])
-        line.want("setup")
-        shards, replicas, engines, mode = line.take(), line.take(), line.take(), line.take()
-        newer = call("Some", line.take()) if line.tokens else "None"
-        self.setup = record(shards=shards, replicas=replicas, engines=engines, mode=mode, newer=newer)
-        self.objects, self.functions = [], []
-        rows = rows[1:]
-        while rows and rows[0].startswith("object"):
-            line = Line(rows.pop(0))
-            line.want("object")
-            self.objects.append(line.given(""))
-        while rows:
-            end = next((i for i, row in enumerate(rows) if row.startswith("function") and i > 0), len(rows))
-            self.functions.append(Function(rows[0], rows[1:end - 1]))
-            rows = rows[end:]
-        self.names = [f.name for f in self.functions]
-
-    def output(self, rows, words):
-        cut = rows.index("report")
-        answers = [row.split(" ", 1)[1] for row in rows[:cut]]
-        assert len(answers) == len(words)
-        self.lines = [answer(text, word == "step", word, self.names) for text, word in zip(answers, words)]
-        self.report = report(rows[cut + 1:-1], self.names)
-
-# ---- files
 
 ALIASES = {
     "event": "boki_types.specs.declared.event.Event", "line": "boki_types.specs.declared.line.Line",
@@ -449,9 +64,6 @@ def plan_term(example):
         program=record(functions=items(f"{name}_function" for name in example.names)), items="one_by_one events")
     return fielded(fields)
 
-def fielded(fields):
-    return " record {\n" + "".join(f"  {name} = {term};\n" for name, term in fields.items()) + "}"
-
 def spec_file(example, library):
     run = f"{example.module}Run"
     body = "".join([
@@ -483,11 +95,12 @@ def code_file(examples):
     body = "".join(f"\n/// {e.shows}.\npub fn {e.name}()\n    ensures {{ {e.module}Run }}\n{{}}\n" for e in examples)
     head = ("//! The definitions of the machine and of the failure-free execution, computed on worked examples: each function has\n"
             "//! as its contract that the plan of that name gives the lines and the report that stand beside it in `examples/`.\n"
-            "#![tactic(auto)]\n\n")
-    write(CRATE / "src" / "lib.rt", head + uses + body)
+            "#![tactic(auto)]\n\nmod by_hand;\n\n")
+    reexports = "\npub use by_hand::{illegal_turns, known_tags};\n"
+    write(CRATE / "src" / "lib.rt", head + uses + reexports + body)
 
 def main():
-    examples = [Example(source) for source in sorted((TOP / "examples").glob("*.plan"))]
+    examples = [Example(out.with_suffix(".plan")) for out in sorted((TOP / "examples").glob("*.out"))]
     texts = [f.text() for example in examples for f in example.functions]
     library = {f.name: f.text() for example in examples for f in example.functions if texts.count(f.text()) > 1}
     functions_file(library)
@@ -495,7 +108,7 @@ def main():
         spec_file(example, library)
         proof_file(example)
     code_file(examples)
-    modules = ["Shown", "Functions"] + [example.module for example in examples]
+    modules = ["Shown", "Functions", "ByHand"] + [example.module for example in examples]
     write(CRATE / "specs" / "Lib.antt", "".join(f"pub mod {module}\n" for module in modules))
 
 main()

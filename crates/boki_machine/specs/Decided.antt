@@ -2,16 +2,15 @@
 -- step record of the path answers its operation, and the free operations between two step records answer by positions: in mode
 -- R a read answers the last write at or below the cursor, in mode W a write whose version is there is done. Every attempt of
 -- the invocation gets these answers and no others.
-use Rattle.std.specs.Prelude.{ℕ, zero, suc, ◌+◌, ◌-◌, ◌==◌, ◌&&◌, nat_le, Bool, true, false, cond, List, [], ◌∷◌, length, drop, Option, Some, None, unwrap_or, bytes_eq}
+use Rattle.std.specs.Prelude.{ℕ, zero, suc, ◌-◌, Bool, true, false, cond, List, [], ◌∷◌, length, drop, Option, Some, None, unwrap_or, bytes_eq}
 use Rattle.lb_base.specs.declared.value.Value.{Value}
 use Rattle.lb_base.specs.declared.value.Value.TheVariants.{Nothing}
 use Rattle.lb_base.specs.declared.value.Mode.{Mode}
-use Rattle.lb_base.specs.declared.value.Mode.TheVariants.{R, W, T}
+use Rattle.lb_base.specs.declared.value.Mode.TheVariants.{R, W}
 use Rattle.lb_base.specs.declared.value.Outcome.{Outcome}
 use Rattle.boki_types.specs.declared.body.Body.{Body}
 use Rattle.boki_types.specs.declared.body.Body.TheVariants as b
 use Rattle.boki_types.specs.declared.log.Call.{Call}
-use Rattle.boki_types.specs.declared.operation.Op.{Op}
 use Rattle.boki_types.specs.declared.operation.Op.TheVariants as o
 use Rattle.boki_types.specs.declared.operation.Ask.{Ask}
 use Rattle.boki_types.specs.declared.operation.Ask.TheVariants as k
@@ -26,7 +25,7 @@ use Rattle.boki_model.specs.Modes.{result_of, mode_behind}
 use Rattle.boki_model.specs.Writes.{Store, last, has_version}
 use Rattle.boki_model.specs.Script.{asked}
 use Rattle.boki_model.specs.Folds.{queues, front, commits, succeeds, stored, values_of}
-use Rattle.boki_machine.specs.Attempt.{next_index, call_of}
+use Rattle.boki_machine.specs.Attempt.{call_of}
 
 -- The state of an invocation at its last step record: whether its Init is there, its mode, its function and arguments, its
 -- place and cursor, the answers up to that record's own, the newest first, the begin of its open transaction, and its result.

@@ -1,10 +1,9 @@
 -- The failure-free execution: scripts run one after another over maps of objects, queues and store names. It knows no log,
 -- shard, attempt, version, fence or mode.
-use Rattle.std.specs.Prelude.{ℕ, zero, suc, ◌&&◌, not, Bool, true, false, cond, List, [], ◌∷◌, ◌++◌, length, map, Option, Some, None, option_map, option_and_then, unwrap_or, is_some}
+use Rattle.std.specs.Prelude.{ℕ, zero, suc, not, Bool, true, false, List, [], ◌∷◌, ◌++◌, length, map, Option, Some, None, option_map, option_and_then, unwrap_or}
 use Rattle.lb_base.specs.declared.value.Value.{Value}
 use Rattle.lb_base.specs.declared.value.Value.TheVariants.{Nothing}
 use Rattle.lb_base.specs.declared.value.Outcome.{Outcome}
-use Rattle.boki_types.specs.declared.operation.Op.{Op}
 use Rattle.boki_types.specs.declared.operation.Op.TheVariants as o
 use Rattle.boki_types.specs.declared.operation.Ask.{Ask}
 use Rattle.boki_types.specs.declared.operation.Ask.TheVariants as k
@@ -13,7 +12,7 @@ use Rattle.boki_types.specs.declared.operation.Answer.TheVariants as a
 use Rattle.boki_types.specs.declared.program.Function.{Function}
 use Rattle.boki_types.specs.declared.turn.Turn.{Turn}
 use Rattle.boki_types.specs.declared.turn.Turn.TheVariants as t
-use Rattle.boki_model.specs.Maps.{get, put, has}
+use Rattle.boki_model.specs.Maps.{get, put}
 use Rattle.boki_model.specs.Bodies.{child}
 use Rattle.boki_model.specs.Script.{asked}
 use Rattle.boki_model.specs.Folds.{pushed, popped, front, written, meet, put_all, values_of}

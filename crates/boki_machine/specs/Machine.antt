@@ -1,17 +1,14 @@
 -- The machine: shards with their replicas, the metalog, engines, the object store and attempts. One event gives the next
 -- state and one line. It scans whole lists, and runs each script from its start.
-use Rattle.std.specs.Prelude.{ℕ, zero, suc, ◌+◌, ◌-◌, ◌%◌, ◌==◌, ◌&&◌, ◌||◌, not, nat_le, min, Bool, true, false, cond, List, [], ◌∷◌, ◌++◌, length, map, take, Option, Some, None, option_map, is_some, replicate, slice_index, slice_index_or, slice_set}
+use Rattle.std.specs.Prelude.{ℕ, suc, ◌+◌, ◌-◌, ◌%◌, ◌==◌, ◌&&◌, not, nat_le, min, Bool, true, false, cond, List, [], ◌∷◌, ◌++◌, length, map, take, Option, Some, None, replicate, slice_index, slice_index_or, slice_set}
 use Rattle.std.specs.List.{filter}
 use Rattle.lb_base.specs.declared.value.Value.{Value}
-use Rattle.lb_base.specs.declared.value.Mode.{Mode}
 use Rattle.lb_base.specs.declared.value.Tag.{Tag}
 use Rattle.lb_base.specs.declared.value.Cond.{Cond}
 use Rattle.boki_types.specs.declared.body.Body.{Body}
 use Rattle.boki_types.specs.declared.body.Body.TheVariants as b
 use Rattle.boki_types.specs.declared.event.Event.{Event}
 use Rattle.boki_types.specs.declared.event.Event.TheVariants as v
-use Rattle.boki_types.specs.declared.line.Life.{Life}
-use Rattle.boki_types.specs.declared.line.Life.TheVariants.{Running, Killed}
 use Rattle.boki_types.specs.declared.line.Line.{Line}
 use Rattle.boki_types.specs.declared.line.Line.TheVariants as l
 use Rattle.boki_types.specs.declared.log.Sent.{Sent}
@@ -21,7 +18,7 @@ use Rattle.boki_types.specs.declared.program.Function.{Function}
 use Rattle.boki_model.specs.Order.{order, progress, last_vector, first_count, other_counts, seq_of}
 use Rattle.boki_model.specs.Live.{Entry, Live, live, upto, is_live}
 use Rattle.boki_model.specs.Reads.{read_next, read_prev}
-use Rattle.boki_model.specs.Bodies.{tags_of, call_tag, tag_of, path_number, trim_of}
+use Rattle.boki_model.specs.Bodies.{tags_of, tag_of, path_number, trim_of}
 use Rattle.boki_model.specs.Modes.{Switch, modes, least_open}
 use Rattle.boki_model.specs.Floor.{floor, may_trim}
 use Rattle.boki_model.specs.Writes.{Store, opening_store, swept, held}

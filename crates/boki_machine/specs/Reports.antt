@@ -1,6 +1,6 @@
 -- The report of a machine, over its whole ordered list; and that of an ideal state with its turns. Results stand in the order
 -- of paths, and objects, queues and store names in that of their bytes.
-use Rattle.std.specs.Prelude.{ℕ, suc, Bool, List, [], ◌∷◌, length, map, Option, Some, None, is_some}
+use Rattle.std.specs.Prelude.{ℕ, suc, List, [], ◌∷◌, length, Option, Some, None}
 use Rattle.lb_base.specs.declared.value.Value.{Value}
 use Rattle.lb_base.specs.declared.value.Outcome.{Outcome}
 use Rattle.boki_types.specs.declared.body.Body.{Body}
@@ -10,7 +10,7 @@ use Rattle.boki_types.specs.declared.turn.Turn.{Turn}
 use Rattle.boki_types.specs.declared.turn.Report.{Report}
 use Rattle.boki_model.specs.Maps.{get, put}
 use Rattle.boki_model.specs.Live.{Live}
-use Rattle.boki_model.specs.Writes.{Store, keys_below, last, with}
+use Rattle.boki_model.specs.Writes.{Store, keys_below, last}
 use Rattle.boki_model.specs.Folds.{queues, commits, stored}
 use Rattle.boki_machine.specs.Machine.{Machine, log, live_log}
 use Rattle.boki_machine.specs.Turns.{turns}

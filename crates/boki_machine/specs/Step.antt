@@ -1,10 +1,10 @@
 -- The step table: what one step of an attempt does, by the records that its engine sees. The first case that applies is taken.
-use Rattle.std.specs.Prelude.{ℕ, zero, suc, ◌-◌, ◌+◌, ◌==◌, ◌&&◌, ◌||◌, nat_le, nat_lt, Bool, true, false, cond, List, [], ◌∷◌, length, map, Option, Some, None, unwrap_or, is_some}
+use Rattle.std.specs.Prelude.{ℕ, zero, suc, ◌-◌, ◌==◌, ◌&&◌, ◌||◌, nat_le, nat_lt, Bool, true, false, cond, List, [], ◌∷◌, length, map, Option, Some, None, unwrap_or}
 use Rattle.std.specs.List.{list_any}
 use Rattle.lb_base.specs.declared.value.Value.{Value}
 use Rattle.lb_base.specs.declared.value.Value.TheVariants.{Int, Text, Nothing}
 use Rattle.lb_base.specs.declared.value.Mode.{Mode}
-use Rattle.lb_base.specs.declared.value.Mode.TheVariants.{R, W, T}
+use Rattle.lb_base.specs.declared.value.Mode.TheVariants.{R, W}
 use Rattle.lb_base.specs.declared.value.Outcome.{Outcome}
 use Rattle.lb_base.specs.declared.value.Seqnum.{Seqnum}
 use Rattle.boki_types.specs.declared.body.Body.{Body}
@@ -26,7 +26,6 @@ use Rattle.boki_types.specs.declared.operation.Answer.TheVariants as a
 use Rattle.boki_types.specs.declared.plan.Setup.{Setup}
 use Rattle.boki_types.specs.declared.program.Function.{Function}
 use Rattle.boki_types.specs.declared.store.Name.{Name}
-use Rattle.boki_types.specs.declared.store.Named.TheVariants as named
 use Rattle.boki_types.specs.declared.store.Put.{Put}
 use Rattle.boki_types.specs.declared.store.Put.TheVariants as put
 use Rattle.boki_types.specs.declared.store.Fenced.{Fenced}
@@ -36,7 +35,7 @@ use Rattle.boki_model.specs.Live.{Live, upto}
 use Rattle.boki_model.specs.Reads.{nth}
 use Rattle.boki_model.specs.Bodies.{step_tag, step_of, child}
 use Rattle.boki_model.specs.Modes.{result_of, mode_behind}
-use Rattle.boki_model.specs.Writes.{Store, read_free, read_fenced, after_fenced, put_at, after_put, named_put, after_named}
+use Rattle.boki_model.specs.Writes.{Store, read_free, read_fenced, after_fenced, put_at, after_put, after_named}
 use Rattle.boki_model.specs.Script.{asked}
 use Rattle.boki_model.specs.Folds.{queues, front, commits, stored, values_of}
 use Rattle.boki_machine.specs.Attempt.{Attempt, Move, moves, sends_record, adopts, answered_with, next_index, call_of}

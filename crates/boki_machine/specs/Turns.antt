@@ -1,7 +1,6 @@
 -- The turns of a log: of each live record in order, a Submit gives one, an Init or an operation's record gives the number of
 -- operations that run at it, and a Finish gives the end; other records give none.
 use Rattle.std.specs.Prelude.{ℕ, ◌+◌, ◌-◌, List, [], ◌∷◌, ◌++◌, Option, Some, None, unwrap_or, slice_index}
-use Rattle.lb_base.specs.declared.value.Value.{Value}
 use Rattle.boki_types.specs.declared.body.Body.{Body}
 use Rattle.boki_types.specs.declared.body.Body.TheVariants as b
 use Rattle.boki_types.specs.declared.program.Function.{Function}

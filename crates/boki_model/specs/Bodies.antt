@@ -1,5 +1,5 @@
 -- What records say: their tags, and which of them have their fields in range.
-use Rattle.std.specs.Prelude.{ℕ, ℤ, pos, negsuc, int_lt, int_le, suc, ◌+◌, ◌-◌, ◌*◌, ◌%◌, ◌^◌, ◌&&◌, ◌||◌, not, nat_le, nat_lt, ◌==◌, Bool, true, false, List, [], ◌∷◌, ◌++◌, length, Option, Some, None, bit_xor, bytes_eq, codes, get_or}
+use Rattle.std.specs.Prelude.{ℕ, ℤ, pos, negsuc, int_lt, int_le, ◌+◌, ◌-◌, ◌*◌, ◌%◌, ◌^◌, ◌&&◌, ◌||◌, not, nat_le, nat_lt, ◌==◌, Bool, true, false, List, [], ◌∷◌, ◌++◌, length, Option, Some, None, bit_xor, bytes_eq, codes, get_or}
 use Rattle.std.specs.List.{list_all, list_any}
 use Rattle.lb_base.specs.declared.value.Tag.{Tag}
 use Rattle.lb_base.specs.declared.value.Value.{Value}
@@ -8,7 +8,6 @@ use Rattle.lb_base.specs.declared.value.Mode.{Mode}
 use Rattle.lb_base.specs.declared.value.Mode.TheVariants.{R, W, T}
 use Rattle.lb_base.specs.declared.value.Outcome.{Outcome}
 use Rattle.lb_base.specs.declared.value.Outcome.TheVariants.{Good, Trap}
-use Rattle.lb_base.specs.declared.value.Cond.{Cond}
 use Rattle.lb_base.specs.Path.{is_path, is_ordinal}
 use Rattle.boki_types.specs.declared.body.Body.{Body}
 use Rattle.boki_types.specs.declared.body.Body.TheVariants as b

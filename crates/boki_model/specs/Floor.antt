@@ -1,6 +1,6 @@
 -- Trims and the floor. A Trim(w) at t counts where w is at most t and every invocation with its Init below w has its Finish
 -- below t. The floor is the greatest counted w, or 0: no invocation that may still run needs a value below it.
-use Rattle.std.specs.Prelude.{ℕ, suc, ◌&&◌, not, nat_le, max, Bool, cond, List, [], ◌∷◌, Option, Some, None, is_some}
+use Rattle.std.specs.Prelude.{ℕ, suc, ◌&&◌, nat_le, max, cond, List, [], ◌∷◌, Option, Some, None, is_some}
 use Rattle.boki_types.specs.declared.body.Body.{Body}
 use Rattle.boki_types.specs.declared.body.Body.TheVariants as b
 use Rattle.boki_model.specs.Live.{Live}

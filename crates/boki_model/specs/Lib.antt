@@ -10,3 +10,9 @@ pub mod Values
 pub mod Script
 pub mod Folds
 pub mod Plans
+pub mod LogLaws
+pub mod TagLaws
+pub mod MapLaws
+pub mod WriteLaws
+pub mod OrderLaws
+pub mod Entries

@@ -1,7 +1,7 @@
 -- Live and dead records. A record without a condition is live. A record with a condition, a tag and a place, is live exactly
 -- where the number of live records with that tag before it equals the place. So whether a record is live depends only on
 -- what is before it. Dead records keep their seqnums, and no read shows them.
-use Rattle.std.specs.Prelude.{ℕ, suc, ◌==◌, ◌||◌, nat_le, Bool, true, false, cond, List, [], ◌∷◌, length, map, Option, Some, None}
+use Rattle.std.specs.Prelude.{ℕ, suc, ◌==◌, ◌||◌, nat_le, Bool, true, false, cond, List, [], ◌∷◌, length, Option, Some, None}
 use Rattle.lb_base.specs.declared.value.Tag.{Tag}
 use Rattle.lb_base.specs.declared.value.Cond.{Cond}
 use Rattle.lb_base.specs.declared.value.Record.{Record}

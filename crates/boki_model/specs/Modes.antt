@@ -3,13 +3,13 @@
 -- the switch's begin has its Finish below e; then the target is current. The mode of an invocation is fixed at its Init: T
 -- where a switch is pending there, else the current mode.
 -- All of these go over live records, the newest first.
-use Rattle.std.specs.Prelude.{ℕ, ◌==◌, ◌&&◌, ◌||◌, not, nat_lt, nat_le, Bool, true, false, cond, List, [], ◌∷◌, Option, Some, None, is_some, bytes_eq, option_map}
+use Rattle.std.specs.Prelude.{ℕ, ◌&&◌, not, nat_lt, Bool, true, false, cond, List, [], ◌∷◌, Option, Some, None, is_some, bytes_eq}
 use Rattle.lb_base.specs.declared.value.Mode.{Mode}
 use Rattle.lb_base.specs.declared.value.Mode.TheVariants.{R, W, T}
 use Rattle.lb_base.specs.declared.value.Outcome.{Outcome}
 use Rattle.boki_types.specs.declared.body.Body.{Body}
 use Rattle.boki_types.specs.declared.body.Body.TheVariants as b
-use Rattle.boki_model.specs.Live.{Live, upto}
+use Rattle.boki_model.specs.Live.{Live}
 use Rattle.boki_model.specs.Reads.{or_else}
 use Rattle.boki_model.specs.Maps.{before}
 

@@ -1,8 +1,8 @@
 -- What a script does: it runs until it asks an operation of its runtime, or ends. `asked` is what a function asks after a list
 -- of answers, the newest of which stands first: it is run from its start, and takes one answer for each operation.
-use Rattle.std.specs.Prelude.{ℕ, zero, suc, ◌+◌, ◌==◌, ◌&&◌, ◌||◌, nat_le, Bool, true, false, cond, List, [], ◌∷◌, ◌++◌, length, map, Option, Some, None, unwrap_or, option_map, option_and_then, is_some, Result, Ok, Err, pos}
+use Rattle.std.specs.Prelude.{ℕ, zero, suc, ◌==◌, ◌&&◌, ◌||◌, nat_le, Bool, cond, List, [], ◌∷◌, length, map, Option, Some, None, unwrap_or, option_map, option_and_then, Result, Ok, Err, pos}
 use Rattle.lb_base.specs.declared.value.Value.{Value}
-use Rattle.lb_base.specs.declared.value.Value.TheVariants.{Int, Text, Nothing}
+use Rattle.lb_base.specs.declared.value.Value.TheVariants.{Int, Nothing}
 use Rattle.lb_base.specs.declared.value.TrapKind.{TrapKind}
 use Rattle.lb_base.specs.declared.value.TrapKind.TheVariants as trap
 use Rattle.lb_base.specs.declared.value.Outcome.{Outcome}

@@ -17,7 +17,7 @@ use Rattle.boki_types.specs.declared.store.Fenced.{Fenced}
 use Rattle.boki_types.specs.declared.store.Fenced.TheVariants as f
 use Rattle.boki_model.specs.Live.{Live}
 use Rattle.boki_model.specs.Reads.{or_else}
-use Rattle.boki_model.specs.Maps.{get, put, has}
+use Rattle.boki_model.specs.Maps.{get, put}
 
 pub record Stored : Type 0 where
   pub name : Name

@@ -21,7 +21,7 @@ pub(crate) fn copy_exprs(alloc: Global, items: &[Expr]) -> Result<List<Expr>, Me
 fn copy_name_and(alloc: Global, item: &(Words, Expr)) -> Result<(Words, Expr), Memory>
     ensures { IfOk result (λ copy. copy ≡ item.now) }
 {
-    let name = item.0.copy()?;
+    let name = item.0.clone()?;
     Ok((name, item.1.copy(alloc)?))
 }
 

@@ -49,9 +49,9 @@ impl Expr {
     {
         match self {
             Expr::Int(n) => Ok(Expr::Int(*n)),
-            Expr::Text(text) => Ok(Expr::Text(text.copy()?)),
+            Expr::Text(text) => Ok(Expr::Text(text.clone()?)),
             Expr::Nothing => Ok(Expr::Nothing),
-            Expr::Var(name) => Ok(Expr::Var(name.copy()?)),
+            Expr::Var(name) => Ok(Expr::Var(name.clone()?)),
             Expr::Not(x) => Ok(Expr::Not(Boxed::new(alloc, x.get().copy(alloc)?)?)),
             Expr::Two(op, x, y) => {
                 let left = Boxed::new(alloc, x.get().copy(alloc)?)?;

@@ -93,20 +93,20 @@ impl Stmt {
         ensures { IfOk result (λ line. line ≡ self.now) }
     {
         match self {
-            Stmt::Let(name, x) => Ok(Stmt::Let(name.copy()?, x.copy(alloc)?)),
-            Stmt::Read(name, x) => Ok(Stmt::Read(name.copy()?, x.copy(alloc)?)),
+            Stmt::Let(name, x) => Ok(Stmt::Let(name.clone()?, x.copy(alloc)?)),
+            Stmt::Read(name, x) => Ok(Stmt::Read(name.clone()?, x.copy(alloc)?)),
             Stmt::Write(x, y) => Ok(Stmt::Write(x.copy(alloc)?, y.copy(alloc)?)),
             Stmt::Spawn(name, function, xs) => {
                 let xs = copy_exprs(alloc, xs.as_slice())?;
-                Ok(Stmt::Spawn(name.copy()?, function.copy()?, xs))
+                Ok(Stmt::Spawn(name.clone()?, function.clone()?, xs))
             }
-            Stmt::Join(name, x) => Ok(Stmt::Join(name.copy()?, x.copy(alloc)?)),
+            Stmt::Join(name, x) => Ok(Stmt::Join(name.clone()?, x.copy(alloc)?)),
             Stmt::Push(x, y) => Ok(Stmt::Push(x.copy(alloc)?, y.copy(alloc)?)),
-            Stmt::Pop(name, x) => Ok(Stmt::Pop(name.copy()?, x.copy(alloc)?)),
+            Stmt::Pop(name, x) => Ok(Stmt::Pop(name.clone()?, x.copy(alloc)?)),
             Stmt::Begin(names) => Ok(Stmt::Begin(copy_named(alloc, names.as_slice())?)),
             Stmt::Commit(name, writes) => {
                 let writes = copy_pairs(alloc, writes.as_slice())?;
-                Ok(Stmt::Commit(name.copy()?, writes))
+                Ok(Stmt::Commit(name.clone()?, writes))
             }
             Stmt::If(x) => Ok(Stmt::If(x.copy(alloc)?)),
             Stmt::Else => Ok(Stmt::Else),
@@ -124,7 +124,7 @@ impl Function {
         ensures { IfOk result (λ function. function ≡ self.now) }
     {
         Ok(Function {
-            name: self.name.copy()?,
+            name: self.name.clone()?,
             params: self.params.clone()?,
             lines: copy_lines(alloc, self.lines.as_slice())?,
         })

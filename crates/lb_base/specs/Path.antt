@@ -9,6 +9,7 @@ is_request n = nat_lt 0 n && nat_lt n 1048576
 abbrev pub is_ordinal : ℕ → Bool
 is_ordinal n = nat_lt 0 n && nat_lt n 4096
 
+-- ordinals, one after another
 abbrev pub are_ordinals : List ℕ → Bool
 are_ordinals [] = true
 are_ordinals (n ∷ ns) = is_ordinal n && are_ordinals ns
@@ -18,6 +19,7 @@ abbrev pub is_path : List ℕ → Bool
 is_path [] = false
 is_path (n ∷ ns) = is_request n && are_ordinals ns && nat_lt (length ns) 4
 
+-- the same as a fact
 abbrev pub IsPath : List ℕ → Type 0
 IsPath path = IsTrue (is_path path)
 
@@ -32,3 +34,7 @@ child_path path ordinal = if is_ordinal ordinal && nat_lt (length path) 4 then S
 -- four numbers, those behind the path being 0
 abbrev pub padded : List ℕ → List ℕ
 padded path = take 4 (path ++ 0 ∷ 0 ∷ 0 ∷ 0 ∷ [])
+
+-- numbers as a path, where they are one
+abbrev pub path_of : List ℕ → Option (List ℕ)
+path_of numbers = if is_path numbers then Some numbers else None

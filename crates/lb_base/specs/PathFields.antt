@@ -4,6 +4,7 @@ use Rattle.std.proofs.Common.{ap, ◌∙◌}
 use Rattle.lb_base.specs.declared.path.Path.TheInside.{Inside}
 use Rattle.lb_base.specs.Path.{IsPath, padded}
 
+-- the numbers in use
 abbrev pub numbers : Inside → List ℕ
 numbers p = take p.len p.parts
 
@@ -13,6 +14,7 @@ pub record IsSound (p : Inside) : Type 0 where
   pub len : length (numbers p) ≡ p.len
   pub parts : padded (numbers p) ≡ p.parts
 
+-- the fields of the path with these numbers
 abbrev pub fields : List ℕ → Inside
 fields path = record { parts = padded path; len = length path }
 

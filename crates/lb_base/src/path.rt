@@ -1,5 +1,5 @@
-ghost use Rattle.std.specs.Prelude.{◌≡◌, ◌==◌, ℕ, ◌≤◌, Some, refl, length};
-ghost use Rattle.lb_base.specs.Path.{IsPath, request_path, child_path};
+ghost use Rattle.std.specs.Prelude.{◌≡◌, ◌==◌, ℕ, ◌≤◌, Some, refl, length, ◌∷◌};
+ghost use Rattle.lb_base.specs.Path.{IsPath, request_path, child_path, path_of};
 ghost use Rattle.std.specs.Cmp;
 ghost use Rattle.std.specs.Cmp.Lexicographic.{pointwise, slice_cmp, nat_list_eq_equiv, nat_list_cmp_total, texts_ties, texts_po};
 ghost use Rattle.std.specs.Cmp.Rules.{hashing};
@@ -72,12 +72,31 @@ impl Path {
         })
     }
 
+    /// The path with these numbers, or None where they are none of a path.
+    pub fn from_parts(numbers: &[u32]) -> Option<Path>
+        ensures { result ≡ path_of numbers.now }
+    {
+        let (first, rest) = numbers.split_first()?;
+        let mut path = Path::request(*first)?;
+        'ordinals: for n in rest {
+            path = path.child(*n)?;
+        }
+        Some(path)
+    }
+
     /// The numbers, from the left.
     pub fn parts(&self) -> &[u32]
         ensures value { result.now ≡ self.now }
         ensures path { IsPath self.now }
     {
         &self.parts[..self.len as usize]
+    }
+
+    /// The request's number, and the ordinals behind it.
+    pub fn split(&self) -> (u32, &[u32])
+        ensures { self.now ≡ result.0 ∷ result.1.now }
+    {
+        (self.parts[0], &self.parts[1..self.len as usize])
     }
 
     /// How many numbers it has, from 1 to 4.

@@ -2,26 +2,40 @@
 //! as its contract that the plan of that name gives the lines and the report that stand beside it in `examples/`.
 #![tactic(auto)]
 
+mod by_hand;
+
+ghost use Rattle.model_rows.specs.Branches.{BranchesRun};
 ghost use Rattle.model_rows.specs.Children.{ChildrenRun};
 ghost use Rattle.model_rows.specs.Conditions.{ConditionsRun};
 ghost use Rattle.model_rows.specs.LateWrite.{LateWriteRun};
 ghost use Rattle.model_rows.specs.LostReply.{LostReplyRun};
 ghost use Rattle.model_rows.specs.MissingObject.{MissingObjectRun};
 ghost use Rattle.model_rows.specs.MixedFormats.{MixedFormatsRun};
+ghost use Rattle.model_rows.specs.NamesRead.{NamesReadRun};
 ghost use Rattle.model_rows.specs.OutlivedTrim.{OutlivedTrimRun};
+ghost use Rattle.model_rows.specs.QueueInOrder.{QueueInOrderRun};
 ghost use Rattle.model_rows.specs.ReadAtACursor.{ReadAtACursorRun};
 ghost use Rattle.model_rows.specs.ReadGroup.{ReadGroupRun};
 ghost use Rattle.model_rows.specs.ReadOfAVersion.{ReadOfAVersionRun};
 ghost use Rattle.model_rows.specs.RepeatedVersion.{RepeatedVersionRun};
 ghost use Rattle.model_rows.specs.RestartedEngine.{RestartedEngineRun};
 ghost use Rattle.model_rows.specs.Smallest.{SmallestRun};
+ghost use Rattle.model_rows.specs.StaleSwitchEnd.{StaleSwitchEndRun};
 ghost use Rattle.model_rows.specs.Switch.{SwitchRun};
+ghost use Rattle.model_rows.specs.TrapKinds.{TrapKindsRun};
 ghost use Rattle.model_rows.specs.Traps.{TrapsRun};
 ghost use Rattle.model_rows.specs.TwoAttempts.{TwoAttemptsRun};
 ghost use Rattle.model_rows.specs.TwoPops.{TwoPopsRun};
 ghost use Rattle.model_rows.specs.TwoTransactions.{TwoTransactionsRun};
 ghost use Rattle.model_rows.specs.UnevenReplicas.{UnevenReplicasRun};
 ghost use Rattle.model_rows.specs.UnfinishedWriter.{UnfinishedWriterRun};
+
+pub use by_hand::{illegal_turns, known_tags};
+
+/// Loops, branches and operators: scripts that ask no operation.
+pub fn branches()
+    ensures { BranchesRun }
+{}
 
 /// A spawn, and two joins of the child.
 pub fn children()
@@ -53,9 +67,19 @@ pub fn mixed_formats()
     ensures { MixedFormatsRun }
 {}
 
+/// A commit fails where another wrote a name that its transaction only read.
+pub fn names_read()
+    ensures { NamesReadRun }
+{}
+
 /// An attempt that outlives a trim stops; the floor, and what the store holds.
 pub fn outlived_trim()
     ensures { OutlivedTrimRun }
+{}
+
+/// Two pushes and a pop, which answers the value that was pushed first.
+pub fn queue_in_order()
+    ensures { QueueInOrderRun }
 {}
 
 /// In mode R a read answers at its cursor, and not the newest write.
@@ -88,9 +112,19 @@ pub fn smallest()
     ensures { SmallestRun }
 {}
 
+/// A record that was sent to end one switch doesn't end the next one early.
+pub fn stale_switch_end()
+    ensures { StaleSwitchEndRun }
+{}
+
 /// A switch from mode R to W waits for an invocation that began before it; between them the mode is T.
 pub fn switch()
     ensures { SwitchRun }
+{}
+
+/// One trap of each other kind, and which comes first where two could.
+pub fn trap_kinds()
+    ensures { TrapKindsRun }
 {}
 
 /// Traps as results: an integer out of range, and a loop without end.

@@ -1,0 +1,125 @@
+//! The index of an engine: which records of the log are live, and where the live records of each tag are.
+#![tactic(auto)]
+
+mod lists;
+
+ghost use Rattle.std.specs.Prelude.{◌≡◌, ℕ, List, [], ◌∷◌, length, OnOk, OnErr, IsOkAnd, option_map};
+ghost use Rattle.boki_model.specs.Live.{Entry, entry_of, live, count, is_live};
+ghost use Rattle.boki_model.specs.Reads.{next, prev, nth_seq};
+ghost use Rattle.eng_index.specs.Shown.{Shows, IsUnchanged, mark_at};
+
+use crate::lists::Lists;
+use lb_base::{Memory, Record, Seqnum, Tag};
+use std::alloc::Global;
+use std::collections::HashMap;
+use std::marker::Model;
+
+/// The index of the first records of the log, as many as were added.
+///
+/// Each read has the answer that the log's live records have. A read takes no memory, and time that grows with the logarithm of
+/// the number of live records of its tag.
+#[derive(Drop)]
+pub struct Index {
+    alloc: Global,
+    lists: Lists,
+    marks: Vec<bool>,
+}
+
+impl Model for Index {
+    ghost use Rattle.std.specs.Prelude.{map};
+    ghost use Rattle.eng_index.specs.Shown.{Kept};
+
+    ghost Value = { Kept };
+
+    ghost view = { λ i. record { lists = map (λ e. (e.0, e.1.items)) i.lists.entries; marks = i.marks.items } };
+}
+
+impl Index {
+    /// The index of no record. It takes no memory, so it is always Ok.
+    pub fn new(alloc: Global) -> Result<Index, Memory>
+        ensures { IsOkAnd result (Shows []) }
+    {
+        Ok(Index {
+            alloc,
+            lists: HashMap::new(alloc),
+            marks: Vec::new(alloc),
+        })
+    }
+
+    /// Adds the next record of the log. After `Memory` no read tells that the index was called.
+    pub fn add(&mut self, rec: &Record) -> Result<(), Memory>
+        ensures ok { OnOk result ((log : List (Entry (List ℕ))) → Shows log self.old → Shows (entry_of rec.now ∷ log) self.new) }
+        ensures err { OnErr result (IsUnchanged self.old self.new) }
+    {
+        self.marks.reserve(1)?;
+        if !lists::is_met(&self.lists, rec.cond) {
+            self.marks.push_reserved(false);
+            return Ok(());
+        }
+        let tags = rec.tags.as_slice();
+        lists::reserve(&mut self.lists, self.alloc, tags)?;
+        self.marks.push_reserved(true);
+        lists::push(&mut self.lists, tags, self.marks.len() as u64);
+        Ok(())
+    }
+
+    /// How many records were added, live and dead.
+    pub fn position(&self) -> u64
+        ensures { (log : List (Entry (List ℕ))) → Shows log self.now → result ≡ length log }
+    {
+        self.marks.len() as u64
+    }
+
+    /// Whether there is a record with the seqnum, and it is live. Seqnums are counted from 1.
+    pub fn live(&self, seq: Seqnum) -> bool
+        ensures { (log : List (Entry (List ℕ))) → Shows log self.now → result ≡ is_live seq.0 (live log) }
+    {
+        is_marked(self.marks.as_slice(), seq.0)
+    }
+
+    /// The first live record of the tag at or behind a seqnum, or None where there is none.
+    pub fn next(&self, tag: Tag, from: Seqnum) -> Option<Seqnum>
+        ensures { (log : List (Entry (List ℕ))) → Shows log self.now → option_map (λ seq. seq.0) result ≡ next tag.0 from.0 (live log) }
+    {
+        lists::first_from(lists::of_tag(&self.lists, tag.0), from.0)
+    }
+
+    /// The last live record of the tag at or before a seqnum, or None where there is none.
+    pub fn prev(&self, tag: Tag, upto: Seqnum) -> Option<Seqnum>
+        ensures { (log : List (Entry (List ℕ))) → Shows log self.now → option_map (λ seq. seq.0) result ≡ prev tag.0 upto.0 (live log) }
+    {
+        lists::last_upto(lists::of_tag(&self.lists, tag.0), upto.0)
+    }
+
+    /// The live record of the tag at a place, or None where there is none. Places are counted from 0, over the tag's live records.
+    pub fn nth(&self, tag: Tag, place: u64) -> Option<Seqnum>
+        ensures { (log : List (Entry (List ℕ))) → Shows log self.now → option_map (λ seq. seq.0) result ≡ nth_seq tag.0 place (live log) }
+    {
+        lists::at_place(lists::of_tag(&self.lists, tag.0), place as usize)
+    }
+
+    /// How many live records the tag has.
+    pub fn count(&self, tag: Tag) -> u64
+        ensures { (log : List (Entry (List ℕ))) → Shows log self.now → result ≡ count tag.0 (live log) }
+    {
+        lists::of_tag(&self.lists, tag.0).len() as u64
+    }
+
+    /// Takes each record out, so that the position is 0. It takes no memory.
+    pub fn clear(&mut self)
+        ensures { Shows [] self.new }
+    {
+        self.lists.clear();
+        self.marks.clear();
+    }
+}
+
+// The mark of a seqnum, and false where it has none.
+fn is_marked(marks: &[bool], seq: u64) -> bool
+    ensures { result ≡ mark_at seq marks.now }
+{
+    if seq == 0 {
+        return false;
+    }
+    marks.get(seq as usize - 1).copied().unwrap_or(false)
+}

@@ -1,0 +1,95 @@
+-- Live records by their seqnums, which fall.
+use Rattle.std.proofs.Common.{◌≡◌, ⊎_elim, ℕ, suc, ◌<◌, ◌≤◌, Bool, true, false, cond, eqb, List, [], ◌∷◌, length, Some, refl, sym, ap, ◌∙◌, subst, arith, ◌-◌}
+use Rattle.std.proofs.lemmas.Bool.{eqb-true, le-leb, lt-leb}
+use Rattle.boki_model.specs.Live.{Entry, Live, meets, joined, live, upto}
+use Rattle.exactly_once.specs.Exclusion.{held_at}
+use Rattle.exactly_once.proofs.Tails.{Tail, here, there, tail_cases}
+
+module _ {A : Type 0} where
+  -- seqnums are at most n, and fall
+  abbrev pub Under : ℕ → List (Live A) → Type 0
+  Under n [] = Unit {0}
+  Under n (x ∷ xs) = (m : ℕ) × (x.seq ≡ suc m) × (m < n) × Under m xs
+
+  pub under_more : (n m : ℕ) (xs : List (Live A)) → n ≤ m → Under n xs → Under m xs
+  under_more n m [] le under = tt
+  under_more n m (x ∷ xs) le under = (under.0, under.1, omega (arith, under.2), under.3)
+
+  pub joined_under : (n : ℕ) (r : Entry A) (xs : List (Live A)) → Under n xs → Under (suc n) (joined (suc n) r xs)
+  joined_under n r xs under =
+      elim (meets r.condition xs) as (λ b. Under (suc n) (cond b (record { seq = suc n; tags = r.tags; holds = r.holds } ∷ xs) xs))
+      [ true ↦ (n, refl, omega arith, under) | false ↦ under_more n (suc n) xs (omega arith) under ]
+
+  pub live_under : (log : List (Entry A)) → Under (length log) (live log)
+  live_under [] = tt
+  live_under (r ∷ log) = joined_under (length log) r (live log) (live_under log)
+
+  pub upto_skip : (p : ℕ) (x : Live A) (xs : List (Live A)) → p < x.seq → upto p (x ∷ xs) ≡ upto p xs
+  upto_skip p x xs lt = rw (lt-leb x.seq p lt)
+
+  pub upto_here : (p : ℕ) (x : Live A) (xs : List (Live A)) → x.seq ≤ p → upto p (x ∷ xs) ≡ x ∷ xs
+  upto_here p x xs le = rw (le-leb x.seq p le)
+
+  pub upto_all : (n p : ℕ) (xs : List (Live A)) → Under n xs → n ≤ p → upto p xs ≡ xs
+  upto_all n p [] under le = refl
+  upto_all n p (x ∷ xs) under le = upto_here p x xs (omega (arith, under.1, under.2, le))
+
+  -- the live record at a seqnum, and what lies behind it
+  pub record IsAt (n seq : ℕ) (xs : List (Live A)) (holds : A) : Type 0 where
+    pub record_there : Live A
+    pub behind : List (Live A)
+    pub tail : Tail (record_there ∷ behind) xs
+    pub below : upto (seq - 1) xs ≡ behind
+    pub seq_is : record_there.seq ≡ seq
+    pub within : seq ≤ n
+    pub holds_is : record_there.holds ≡ holds
+
+  at_head : (n : ℕ) (x : Live A) (xs : List (Live A)) → Under n (x ∷ xs) → IsAt n x.seq (x ∷ xs) x.holds
+  at_head n x xs under = record {
+    record_there = x;
+    behind = xs;
+    tail = here;
+    below = upto_skip (x.seq - 1) x xs (omega (arith, under.1)) ∙ upto_all under.0 (x.seq - 1) xs under.3 (omega (arith, under.1));
+    seq_is = refl;
+    within = omega (arith, under.1, under.2);
+    holds_is = refl;
+  }
+
+  at_later : (n m seq : ℕ) (x : Live A) (xs : List (Live A)) (holds : A) → x.seq ≡ suc m → m < n → IsAt m seq xs holds → IsAt n seq (x ∷ xs) holds
+  at_later n m seq x xs holds is lt found = record {
+    record_there = found.record_there;
+    behind = found.behind;
+    tail = there found.tail;
+    below = upto_skip (seq - 1) x xs (omega (arith, found.within)) ∙ found.below;
+    seq_is = found.seq_is;
+    within = omega (arith, found.within);
+    holds_is = found.holds_is;
+  }
+
+  pub at_some : (n seq : ℕ) (xs : List (Live A)) (holds : A) → Under n xs → held_at seq xs ≡ Some holds → IsAt n seq xs holds
+  at_some n seq [] holds under found = cc
+  at_some n seq (x ∷ xs) holds under found = at (λ e. at_later n under.0 seq x xs holds under.1 under.2 (at_some under.0 seq xs holds under.3 e)) (eqb seq x.seq) refl found
+    where
+      at : (held_at seq xs ≡ Some holds → IsAt n seq (x ∷ xs) holds) → (b : Bool) → eqb seq x.seq ≡ b → cond b (Some x.holds) (held_at seq xs) ≡ Some holds → IsAt n seq (x ∷ xs) holds
+      at later true e is =
+          let here : IsAt n x.seq (x ∷ xs) x.holds = at_head n x xs under in
+          let same : x.holds ≡ holds = cc in
+          subst (λ s. IsAt n s (x ∷ xs) holds) (sym (eqb-true seq x.seq e)) (subst (IsAt n x.seq (x ∷ xs)) same here)
+      at later false e is = later is
+
+  pub tail_within : (x : Live A) (xs : List (Live A)) (n : ℕ) (ys : List (Live A)) → Under n ys → Tail (x ∷ xs) ys → x.seq ≤ n
+  tail_within n x xs ys under here = omega (arith, under.1, under.2)
+  tail_within x xs n (y ∷ ys) under (there t) = omega (arith, under.2, tail_within x xs under.0 ys under.3 t)
+
+  pub tail_below : (n : ℕ) (x y : Live A) (xs ys : List (Live A)) → Under n (y ∷ ys) → Tail (x ∷ xs) ys → x.seq < y.seq
+  tail_below n x y xs ys under t = omega (arith, under.1, under.2, tail_within x xs under.0 ys under.3 t)
+
+  -- of two records, the one with the lesser seqnum lies behind the other
+  pub tails_by_seq : (x y : Live A) (xs ys : List (Live A)) (n : ℕ) (zs : List (Live A)) → Under n zs → Tail (x ∷ xs) zs → Tail (y ∷ ys) zs → x.seq < y.seq → Tail (x ∷ xs) ys
+  tails_by_seq x y xs ys n zs under s here lt = ⊎_elim (λ same. absurd (let e : x ≡ y = cc in omega (arith, lt, ap (λ (x : Live A). x.seq) e))) (λ t. t) (tail_cases s)
+  tails_by_seq x y xs ys n (z ∷ zs) under s (there t) lt =
+      ⊎_elim (λ same. absurd (let e : x ≡ z = cc in omega (arith, lt, ap (λ (x : Live A). x.seq) e, tail_below n y z ys zs under t))) (λ s. tails_by_seq x y xs ys under.0 zs under.3 s t lt) (tail_cases s)
+
+  pub under_behind : (x : Live A) (xs : List (Live A)) (n : ℕ) (ys : List (Live A)) → Under n ys → Tail (x ∷ xs) ys → Under n xs
+  under_behind x xs n ys under here = under_more under.0 n xs (omega (arith, under.2)) under.3
+  under_behind x xs n (y ∷ ys) under (there t) = under_more under.0 n xs (omega (arith, under.2)) (under_behind x xs under.0 ys under.3 t)

@@ -1,0 +1,5 @@
+use Rattle.exactly_once.proofs.Exclusion.{floors_pass}
+use Rattle.exactly_once.proofs.floors_pass.Goals as goal
+
+pub returns : goal.returns
+returns c = floors_pass

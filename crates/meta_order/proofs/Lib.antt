@@ -1,0 +1,4 @@
+mod Numbered
+mod Flat
+mod Searching
+mod Meaning
