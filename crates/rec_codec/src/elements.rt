@@ -1,4 +1,4 @@
-ghost use Rattle.std.specs.Prelude.{◌≡◌, ◌≤◌, length};
+ghost use Rattle.std.specs.Prelude.{◌≡◌, ◌≤◌, length, IfOk};
 ghost use Rattle.std.specs.Int.{w16, w32};
 ghost use Rattle.rec_codec.specs.Answers.{Gives};
 ghost use Rattle.rec_codec.specs.Reading.{byte_at, number_at, word_at, index_at, ordinal_at, tag_at, piece_at, count_at, is_text, is_key, is_function, text_at, value_at, trap_of, trap_at, outcome_at, target_at, write_at};
@@ -92,7 +92,8 @@ pub(crate) fn tag(bytes: &[u8]) -> Result<(u64, &[u8]), Stop>
 /// How many there are, between two bounds.
 #[tactic(auto, unfolding(crate::specs::Reading::count_at))]
 pub(crate) fn count(least: u8, most: u8, bytes: &[u8]) -> Result<(u8, &[u8]), Stop>
-    ensures { Gives (λ x. (x.0, x.1.now)) result (count_at least most bytes.now) }
+    ensures read { Gives (λ x. (x.0, x.1.now)) result (count_at least most bytes.now) }
+    ensures bounds { IfOk result (λ x. (least ≤ x.0) × (x.0 ≤ most)) }
 {
     let (number, rest) = byte(bytes)?;
     if number < least || most < number {
