@@ -13,16 +13,16 @@ use Rattle.boki_model.specs.Bodies.{is_word, is_value, is_name, is_identifier, i
 use Rattle.rec_codec.specs.Spelling.{path, text, value, values, names, write, writes, spelled, is_text_value, is_text_outcome, is_text_write, has_texts}
 use Rattle.rec_codec.specs.Reading.{Reader, ◌>>=◌, is_key, is_function, path_at, text_at, value_at, write_at, list_at, submit_at, init_at, read_at, named_write_at, inline_write_at, spawned_at, join_at, push_at, pop_at, begin_at, commit_at, finish_at, switch_at, trim_at, trim_tag_at, user_at, group_at, plain_at, later_at, body_at, whole, read}
 use Rattle.rec_codec.proofs.Fields.{IsBytes, IsBytes-rest, IsBytes-drop, IsBytes-take, all_bytes, done, text_reads, bind_ok, ok_is, Takes, Takes-behind, Reads, list_reads, passes_list, counted_list}
-use Rattle.rec_codec.proofs.Elements.{chosen, word_reads, is_index, index_reads, ordinal_reads, tag_reads, key_reads, function_reads, path_of, path_reads, value_ok, value_reads, target_reads, outcome_reads, write_ok, write_reads}
+use Rattle.rec_codec.proofs.ElementsLemmas.{chosen, word_reads, is_index, index_reads, ordinal_reads, tag_reads, key_reads, function_reads, path_of, path_reads, value_ok, value_reads, target_reads, outcome_reads, write_ok, write_reads}
 use Rattle.rec_codec.proofs.Arities.{one, two, three, four, five}
 
 -- ---- tests in parts
 
-pub first : {x y : Bool} → (x && y) ≡ true → x ≡ true
-first {x} {y} h = (and_parts x y h).0
+pub first : (x y : Bool) → (x && y) ≡ true → x ≡ true
+first x y h = (and_parts x y h).0
 
-pub second : {x y : Bool} → (x && y) ≡ true → y ≡ true
-second {x} {y} h = (and_parts x y h).1
+pub second : (x y : Bool) → (x && y) ≡ true → y ≡ true
+second x y h = (and_parts x y h).1
 
 pub step_in : (p : List ℕ) (i : ℕ) → path_of 4 p ≡ true → is_index i ≡ true → is_step p i ≡ true
 step_in p i hp hi = and_from (is_path p && leb 1 i) (is_word i) (and_from (is_path p) (leb 1 i) (and_parts (is_path p) (leb (length p) 4) hp).0 (and_parts (leb 1 i) (is_word i) hi).0) (and_parts (leb 1 i) (is_word i) hi).1
@@ -110,42 +110,42 @@ unfolding submit_at
 submit_takes bytes body rest fits e =
     let t = three path1 function_reads args_reads b.Submit bytes body rest fits e in
     subst (λ (made : Body). Sound (1 ∷ 1 ∷ bytes) made rest) t.made
-    record { taken = Takes-behind 1 _ _ rest (Takes-behind 1 _ _ rest t.taken); range = and_from (is_path t.x && eqb (length t.x) 1 && is_identifier t.y && few t.z) (list_all is_value t.z) (and_from (is_path t.x && eqb (length t.x) 1 && is_identifier t.y) (few t.z) (and_from (is_path t.x && eqb (length t.x) 1) (is_identifier t.y) (one_number t.x t.x_ok) (second t.y_ok)) (args_in t.z t.z_ok).0) (args_in t.z t.z_ok).1; texts = and_from (is_utf8 t.y) (list_all is_text_value t.z) (first t.y_ok) (args_in t.z t.z_ok).2 }
+    record { taken = Takes-behind 1 _ _ rest (Takes-behind 1 _ _ rest t.taken); range = and_from (is_path t.x && eqb (length t.x) 1 && is_identifier t.y && few t.z) (list_all is_value t.z) (and_from (is_path t.x && eqb (length t.x) 1 && is_identifier t.y) (few t.z) (and_from (is_path t.x && eqb (length t.x) 1) (is_identifier t.y) (one_number t.x t.x_ok) (second _ _ t.y_ok)) (args_in t.z t.z_ok).0) (args_in t.z t.z_ok).1; texts = and_from (is_utf8 t.y) (list_all is_text_value t.z) (first _ _ t.y_ok) (args_in t.z t.z_ok).2 }
 
 init_takes : (bytes : List ℕ) (body : Body) (rest : List ℕ) → IsBytes bytes → init_at bytes ≡ Ok (body, rest) → Sound (1 ∷ 2 ∷ bytes) body rest
 unfolding init_at
 init_takes bytes body rest fits e =
     let t = one path4 b.Init bytes body rest fits e in
     subst (λ (made : Body). Sound (1 ∷ 2 ∷ bytes) made rest) t.made
-    record { taken = Takes-behind 1 _ _ rest (Takes-behind 2 _ _ rest t.taken); range = first t.x_ok; texts = refl }
+    record { taken = Takes-behind 1 _ _ rest (Takes-behind 2 _ _ rest t.taken); range = first _ _ t.x_ok; texts = refl }
 
 read_takes : (bytes : List ℕ) (body : Body) (rest : List ℕ) → IsBytes bytes → read_at bytes ≡ Ok (body, rest) → Sound (1 ∷ 3 ∷ bytes) body rest
 unfolding read_at
 read_takes bytes body rest fits e =
     let t = three path4 index_reads key_reads b.Read bytes body rest fits e in
     subst (λ (made : Body). Sound (1 ∷ 3 ∷ bytes) made rest) t.made
-    record { taken = Takes-behind 1 _ _ rest (Takes-behind 3 _ _ rest t.taken); range = and_from (is_step t.x t.y) (is_name t.z) (step_in t.x t.y t.x_ok t.y_ok) (second t.z_ok); texts = first t.z_ok }
+    record { taken = Takes-behind 1 _ _ rest (Takes-behind 3 _ _ rest t.taken); range = and_from (is_step t.x t.y) (is_name t.z) (step_in t.x t.y t.x_ok t.y_ok) (second _ _ t.z_ok); texts = first _ _ t.z_ok }
 
 named_write_takes : (bytes : List ℕ) (body : Body) (rest : List ℕ) → IsBytes bytes → named_write_at bytes ≡ Ok (body, rest) → Sound (1 ∷ 4 ∷ bytes) body rest
 unfolding named_write_at
 named_write_takes bytes body rest fits e =
     let t = four path4 index_reads word_reads key_reads (λ p i place key. b.Write p i place key None) bytes body rest fits e in
     subst (λ (made : Body). Sound (1 ∷ 4 ∷ bytes) made rest) t.made
-    record { taken = Takes-behind 1 _ _ rest (Takes-behind 4 _ _ rest t.taken); range = and_from (is_step t.x t.y && is_word t.z && is_name t.u) true (and_from (is_step t.x t.y && is_word t.z) (is_name t.u) (and_from (is_step t.x t.y) (is_word t.z) (step_in t.x t.y t.x_ok t.y_ok) t.z_ok) (second t.u_ok)) refl; texts = and_from (is_utf8 t.u) true (first t.u_ok) refl }
+    record { taken = Takes-behind 1 _ _ rest (Takes-behind 4 _ _ rest t.taken); range = and_from (is_step t.x t.y && is_word t.z && is_name t.u) true (and_from (is_step t.x t.y && is_word t.z) (is_name t.u) (and_from (is_step t.x t.y) (is_word t.z) (step_in t.x t.y t.x_ok t.y_ok) t.z_ok) (second _ _ t.u_ok)) refl; texts = and_from (is_utf8 t.u) true (first _ _ t.u_ok) refl }
 
 inline_write_takes : (bytes : List ℕ) (body : Body) (rest : List ℕ) → IsBytes bytes → inline_write_at bytes ≡ Ok (body, rest) → Sound (2 ∷ 4 ∷ bytes) body rest
 unfolding inline_write_at
 inline_write_takes bytes body rest fits e =
     let t = five path4 index_reads word_reads key_reads value_reads (λ p i place key v. b.Write p i place key (Some v)) bytes body rest fits e in
     subst (λ (made : Body). Sound (2 ∷ 4 ∷ bytes) made rest) t.made
-    record { taken = Takes-behind 2 _ _ rest (Takes-behind 4 _ _ rest t.taken); range = and_from (is_step t.x t.y && is_word t.z && is_name t.u) (is_value t.v) (and_from (is_step t.x t.y && is_word t.z) (is_name t.u) (and_from (is_step t.x t.y) (is_word t.z) (step_in t.x t.y t.x_ok t.y_ok) t.z_ok) (second t.u_ok)) (first t.v_ok); texts = and_from (is_utf8 t.u) (is_text_value t.v) (first t.u_ok) (second t.v_ok) }
+    record { taken = Takes-behind 2 _ _ rest (Takes-behind 4 _ _ rest t.taken); range = and_from (is_step t.x t.y && is_word t.z && is_name t.u) (is_value t.v) (and_from (is_step t.x t.y && is_word t.z) (is_name t.u) (and_from (is_step t.x t.y) (is_word t.z) (step_in t.x t.y t.x_ok t.y_ok) t.z_ok) (second _ _ t.u_ok)) (first _ _ t.v_ok); texts = and_from (is_utf8 t.u) (is_text_value t.v) (first _ _ t.u_ok) (second _ _ t.v_ok) }
 
 spawn_takes : (bytes : List ℕ) (body : Body) (rest : List ℕ) → IsBytes bytes → spawned_at bytes ≡ Ok (body, rest) → Sound (1 ∷ 5 ∷ bytes) body rest
 unfolding spawned_at
 spawn_takes bytes body rest fits e =
     let t = five path3 index_reads ordinal_reads function_reads args_reads b.Spawn bytes body rest fits e in
     subst (λ (made : Body). Sound (1 ∷ 5 ∷ bytes) made rest) t.made
-    record { taken = Takes-behind 1 _ _ rest (Takes-behind 5 _ _ rest t.taken); range = and_from (is_step t.x t.y && leb (length t.x) 3 && is_ordinal t.z && is_identifier t.u && few t.v) (list_all is_value t.v) (and_from (is_step t.x t.y && leb (length t.x) 3 && is_ordinal t.z && is_identifier t.u) (few t.v) (and_from (is_step t.x t.y && leb (length t.x) 3 && is_ordinal t.z) (is_identifier t.u) (and_from (is_step t.x t.y && leb (length t.x) 3) (is_ordinal t.z) (and_from (is_step t.x t.y) (leb (length t.x) 3) (step_in3 t.x t.y t.x_ok t.y_ok) (second t.x_ok)) t.z_ok) (second t.u_ok)) (args_in t.v t.v_ok).0) (args_in t.v t.v_ok).1; texts = and_from (is_utf8 t.u) (list_all is_text_value t.v) (first t.u_ok) (args_in t.v t.v_ok).2 }
+    record { taken = Takes-behind 1 _ _ rest (Takes-behind 5 _ _ rest t.taken); range = and_from (is_step t.x t.y && leb (length t.x) 3 && is_ordinal t.z && is_identifier t.u && few t.v) (list_all is_value t.v) (and_from (is_step t.x t.y && leb (length t.x) 3 && is_ordinal t.z && is_identifier t.u) (few t.v) (and_from (is_step t.x t.y && leb (length t.x) 3 && is_ordinal t.z) (is_identifier t.u) (and_from (is_step t.x t.y && leb (length t.x) 3) (is_ordinal t.z) (and_from (is_step t.x t.y) (leb (length t.x) 3) (step_in3 t.x t.y t.x_ok t.y_ok) (second _ _ t.x_ok)) t.z_ok) (second _ _ t.u_ok)) (args_in t.v t.v_ok).0) (args_in t.v t.v_ok).1; texts = and_from (is_utf8 t.u) (list_all is_text_value t.v) (first _ _ t.u_ok) (args_in t.v t.v_ok).2 }
 
 join_takes : (bytes : List ℕ) (body : Body) (rest : List ℕ) → IsBytes bytes → join_at bytes ≡ Ok (body, rest) → Sound (1 ∷ 6 ∷ bytes) body rest
 unfolding join_at
@@ -159,14 +159,14 @@ unfolding push_at
 push_takes bytes body rest fits e =
     let t = four path4 index_reads key_reads value_reads b.Push bytes body rest fits e in
     subst (λ (made : Body). Sound (1 ∷ 7 ∷ bytes) made rest) t.made
-    record { taken = Takes-behind 1 _ _ rest (Takes-behind 7 _ _ rest t.taken); range = and_from (is_step t.x t.y && is_name t.z) (is_value t.u) (and_from (is_step t.x t.y) (is_name t.z) (step_in t.x t.y t.x_ok t.y_ok) (second t.z_ok)) (first t.u_ok); texts = and_from (is_utf8 t.z) (is_text_value t.u) (first t.z_ok) (second t.u_ok) }
+    record { taken = Takes-behind 1 _ _ rest (Takes-behind 7 _ _ rest t.taken); range = and_from (is_step t.x t.y && is_name t.z) (is_value t.u) (and_from (is_step t.x t.y) (is_name t.z) (step_in t.x t.y t.x_ok t.y_ok) (second _ _ t.z_ok)) (first _ _ t.u_ok); texts = and_from (is_utf8 t.z) (is_text_value t.u) (first _ _ t.z_ok) (second _ _ t.u_ok) }
 
 pop_takes : (bytes : List ℕ) (body : Body) (rest : List ℕ) → IsBytes bytes → pop_at bytes ≡ Ok (body, rest) → Sound (1 ∷ 8 ∷ bytes) body rest
 unfolding pop_at
 pop_takes bytes body rest fits e =
     let t = three path4 index_reads key_reads b.Pop bytes body rest fits e in
     subst (λ (made : Body). Sound (1 ∷ 8 ∷ bytes) made rest) t.made
-    record { taken = Takes-behind 1 _ _ rest (Takes-behind 8 _ _ rest t.taken); range = and_from (is_step t.x t.y) (is_name t.z) (step_in t.x t.y t.x_ok t.y_ok) (second t.z_ok); texts = first t.z_ok }
+    record { taken = Takes-behind 1 _ _ rest (Takes-behind 8 _ _ rest t.taken); range = and_from (is_step t.x t.y) (is_name t.z) (step_in t.x t.y t.x_ok t.y_ok) (second _ _ t.z_ok); texts = first _ _ t.z_ok }
 
 begin_takes : (bytes : List ℕ) (body : Body) (rest : List ℕ) → IsBytes bytes → begin_at bytes ≡ Ok (body, rest) → Sound (1 ∷ 9 ∷ bytes) body rest
 unfolding begin_at
@@ -187,7 +187,7 @@ unfolding finish_at
 finish_takes bytes body rest fits e =
     let t = three path4 index_reads outcome_reads b.Finish bytes body rest fits e in
     subst (λ (made : Body). Sound (1 ∷ 11 ∷ bytes) made rest) t.made
-    record { taken = Takes-behind 1 _ _ rest (Takes-behind 11 _ _ rest t.taken); range = and_from (is_step t.x t.y) (is_outcome t.z) (step_in t.x t.y t.x_ok t.y_ok) (first t.z_ok); texts = second t.z_ok }
+    record { taken = Takes-behind 1 _ _ rest (Takes-behind 11 _ _ rest t.taken); range = and_from (is_step t.x t.y) (is_outcome t.z) (step_in t.x t.y t.x_ok t.y_ok) (first _ _ t.z_ok); texts = second _ _ t.z_ok }
 
 switch_takes : (bytes : List ℕ) (body : Body) (rest : List ℕ) → IsBytes bytes → switch_at bytes ≡ Ok (body, rest) → Sound (1 ∷ 12 ∷ bytes) body rest
 unfolding switch_at
@@ -238,7 +238,7 @@ user_takes bytes body rest fits e =
     subst (λ (made : Body). Sound (1 ∷ 16 ∷ bytes) made rest) t.made
     record { taken = Takes-behind 1 _ _ rest (Takes-behind 16 _ _ rest t.taken); range = each; texts = refl }
 
-switch_end_takes : (bytes : List ℕ) (body : Body) (rest : List ℕ) → IsBytes bytes → done (b.SwitchEnd, bytes) ≡ Ok (body, rest) → Sound (1 ∷ 13 ∷ bytes) body rest
+switch_end_takes : (bytes : List ℕ) (body : Body) (rest : List ℕ) → IsBytes bytes → done {A = Body × List ℕ} (b.SwitchEnd, bytes) ≡ Ok (body, rest) → Sound (1 ∷ 13 ∷ bytes) body rest
 switch_end_takes bytes body rest fits e =
     let made : Body × List ℕ = (b.SwitchEnd, bytes) in
     subst (λ (x : Body × List ℕ). Sound (1 ∷ 13 ∷ bytes) x.0 x.1) (ok_is made (body, rest) e) (record { taken = record { parts = refl; rest_fits = fits }; range = refl; texts = refl })

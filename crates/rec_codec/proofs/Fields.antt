@@ -89,13 +89,13 @@ kept_ok p bytes (Err left) x rest e = absurd cc
 pub Reads-kept : {A : Type 0} {spell : A → List ℕ} {ok : A → Bool} {read : Reader A} (p : A → Bool) → Reads A spell ok read → Reads A spell (λ x. ok x && p x) (λ bytes. kept p bytes (read bytes))
 Reads-kept {A} {spell} {ok} {read} p r = record {
   takes = λ bytes x rest fits e.
-    let k = kept_ok p bytes (read bytes) x rest e in
-    let t = r.takes bytes x rest fits k.0 in
-    (t.0, and_from (ok x) (p x) t.1 k.1);
+      let k = kept_ok p bytes (read bytes) x rest e in
+      let t = r.takes bytes x rest fits k.0 in
+      (t.0, and_from (ok x) (p x) t.1 k.1);
   again = λ x rest h.
-    let both = and_parts (ok x) (p x) h in
-    let once : read (spell x ++ rest) ≡ Ok (x, rest) = r.again x rest both.0 in
-    ap (kept p (spell x ++ rest)) once ∙ ap (λ (b : Bool). cond b (Ok (x, rest)) (Err (length (spell x ++ rest)))) both.1;
+      let both = and_parts (ok x) (p x) h in
+      let once : read (spell x ++ rest) ≡ Ok (x, rest) = r.again x rest both.0 in
+      ap (kept p (spell x ++ rest)) once ∙ ap (λ (b : Bool). cond b (Ok (x, rest)) (Err (length (spell x ++ rest)))) both.1;
 }
 
 -- ---- numbers
@@ -205,7 +205,7 @@ text_reads passes short =
 
 -- ---- so many, and lists
 
-many_takes : {A : Type 0} {spell : A → List ℕ} {ok : A → Bool} {read : Reader A} → Reads A spell ok read → (n : ℕ) (bytes : List ℕ) (xs : List A) (rest : List ℕ) → IsBytes bytes → many_at read n bytes ≡ Ok (xs, rest) → Takes bytes (flat_map spell xs) rest × (length xs ≡ n) × (list_all ok xs ≡ true)
+pub many_takes : {A : Type 0} {spell : A → List ℕ} {ok : A → Bool} {read : Reader A} → Reads A spell ok read → (n : ℕ) (bytes : List ℕ) (xs : List A) (rest : List ℕ) → IsBytes bytes → many_at read n bytes ≡ Ok (xs, rest) → Takes bytes (flat_map spell xs) rest × (length xs ≡ n) × (list_all ok xs ≡ true)
 unfolding many_at
 many_takes {A} {spell} {ok} r zero bytes xs rest fits e =
     subst (λ (y : List A × List ℕ). Takes bytes (flat_map spell y.0) y.1 × (length y.0 ≡ 0) × (list_all ok y.0 ≡ true)) (ok_is ([], bytes) (xs, rest) e) (record { parts = refl; rest_fits = fits }, refl, refl)
@@ -219,7 +219,7 @@ many_takes {A} {spell} {ok} {read} r (suc n) bytes xs rest fits e =
     subst (λ (y : List A × List ℕ). Takes bytes (flat_map spell y.0) y.1 × (length y.0 ≡ suc n) × (list_all ok y.0 ≡ true)) (ok_is made (xs, rest) b.2)
     (rw flat_map-cons both, ap suc second.1, and_from (ok a.0.0) (list_all ok b.0.0) first.1 second.2)
 
-many_again : {A : Type 0} {spell : A → List ℕ} {ok : A → Bool} {read : Reader A} → Reads A spell ok read → (xs : List A) (rest : List ℕ) → list_all ok xs ≡ true → many_at read (length xs) (flat_map spell xs ++ rest) ≡ Ok (xs, rest)
+pub many_again : {A : Type 0} {spell : A → List ℕ} {ok : A → Bool} {read : Reader A} → Reads A spell ok read → (xs : List A) (rest : List ℕ) → list_all ok xs ≡ true → many_at read (length xs) (flat_map spell xs ++ rest) ≡ Ok (xs, rest)
 unfolding many_at
 many_again r [] rest h = refl
 many_again {A} {spell} {ok} {read} r (x ∷ xs) rest h =
@@ -240,9 +240,10 @@ list_takes {A} {spell} {ok} {read} least r bytes xs rest fits e =
     let a = bind_ok (count_at least 8 bytes) (λ n. many_at read n.0 n.1) (xs, rest) e in
     let first = (count_reads least 8).takes bytes a.0.0 a.0.1 fits a.1 in
     let second = many_takes r a.0.0 a.0.1 xs rest first.0.rest_fits a.2 in
-    let both = Takes-then bytes (a.0.0 ∷ []) a.0.1 (flat_map spell xs) rest first.0 second.0 in
-    (subst (λ (k : ℕ). Takes bytes (k ∷ flat_map spell xs) rest) (sym second.1) both,
-     and_from (leb least (length xs) && leb (length xs) 8) (list_all ok xs) (subst (λ (k : ℕ). (leb least k && leb k 8) ≡ true) (sym second.1) first.1) second.2)
+    let both = Takes-then bytes (a.0.0 ∷ []) a.0.1 (flat_map spell xs) rest first.0 second.0 in (
+      subst (λ (k : ℕ). Takes bytes (k ∷ flat_map spell xs) rest) (sym second.1) both,
+      and_from (leb least (length xs) && leb (length xs) 8) (list_all ok xs) (subst (λ (k : ℕ). (leb least k && leb k 8) ≡ true) (sym second.1) first.1) second.2,
+    )
 
 list_again : {A : Type 0} {spell : A → List ℕ} {ok : A → Bool} {read : Reader A} (least : ℕ) → Reads A spell ok read → (xs : List A) (rest : List ℕ) → passes_list least ok xs ≡ true → list_at least read (counted_list spell xs ++ rest) ≡ Ok (xs, rest)
 unfolding list_at

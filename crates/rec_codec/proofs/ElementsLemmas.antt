@@ -1,5 +1,5 @@
 -- The laws of the elements of records: numbers in range, names, paths, values.
-use Rattle.std.proofs.Common.{◌≡◌, ℕ, zero, suc, ◌+◌, ◌-◌, ◌^◌, ◌<◌, ◌≤◌, Bool, true, false, ◌&&◌, not, cond, eqb, ltb, leb, List, [], ◌∷◌, ◌++◌, length, get_or, Option, Some, None, Result, Ok, Err, refl, sym, ap, subst, ◌∙◌, append_assoc, arith, inl, inr}
+use Rattle.std.proofs.Common.{◌≡◌, ℕ, zero, suc, ◌+◌, ◌-◌, ◌^◌, ◌<◌, ◌≤◌, Bool, true, false, ◌&&◌, ◌⊎◌, not, cond, eqb, ltb, leb, List, [], ◌∷◌, ◌++◌, length, get_or, Option, Some, None, Result, Ok, Err, refl, sym, ap, subst, ◌∙◌, append_assoc, arith, inl, inr}
 use Rattle.std.specs.Prelude.{ℤ, pos, negsuc, bytes_eq}
 use Rattle.std.specs.Int.{Width, w32, w64, to_be_bytes, cast_signed, cast_unsigned}
 use Rattle.std.specs.List.{flat_map, list_all, list_any}
@@ -8,7 +8,6 @@ use Rattle.std.proofs.lemmas.Bool.{ltb-true, ltb-false, lt-ltb, leb-true, le-leb
 use Rattle.std.proofs.lemmas.Int.{of_z-to_z, to_z-of_z}
 use Rattle.std.proofs.lemmas.List.Concat.{flat_map-cons}
 use mir.Val.{SFits, sel}
-use mir.Syntax as mir
 use Rattle.lb_base.specs.declared.value.Value.{Value}
 use Rattle.lb_base.specs.declared.value.Value.TheVariants.{Int, Text, Nothing}
 use Rattle.lb_base.specs.declared.value.Mode.{Mode}
@@ -217,9 +216,9 @@ target_number n mode e =
     elim (chosen (eqb n 1) (Some R) (cond (eqb n 2) (Some W) None) (Some mode) e) [
       | inl h ↦ let is : R ≡ mode = cc in subst (λ (m : Mode). (mode_number m ≡ n) × (is_target m ≡ true)) is (sym (eqb-true n 1 h.0), refl)
       | inr h ↦ elim (chosen (eqb n 2) (Some W) None (Some mode) h.1) [
-          | inl k ↦ let is : W ≡ mode = cc in subst (λ (m : Mode). (mode_number m ≡ n) × (is_target m ≡ true)) is (sym (eqb-true n 2 k.0), refl)
-          | inr k ↦ absurd cc
-        ]
+        | inl k ↦ let is : W ≡ mode = cc in subst (λ (m : Mode). (mode_number m ≡ n) × (is_target m ≡ true)) is (sym (eqb-true n 2 k.0), refl)
+        | inr k ↦ absurd cc
+      ]
     ]
 
 target_takes : (bytes : List ℕ) (mode : Mode) (rest : List ℕ) → IsBytes bytes → target_at bytes ≡ Ok (mode, rest) → Takes bytes (mode_number mode ∷ []) rest × (is_target mode ≡ true)
@@ -243,23 +242,47 @@ target_reads = record { takes = target_takes; again = target_again }
 trap_number_of : (n : ℕ) (kind : TrapKind) → trap_of n ≡ Some kind → trap_number kind ≡ n
 trap_number_of n kind e =
     let at : (k : ℕ) (t : TrapKind) → trap_number t ≡ k → eqb n k ≡ true → Some t ≡ Some kind → trap_number kind ≡ n =
-        λ k t is here same. let one : t ≡ kind = cc in ap trap_number (sym one) ∙ is ∙ sym (eqb-true n k here) in
-    elim (chosen (eqb n 1) (Some trap.Overflow) _ (Some kind) e) [ inl h ↦ at 1 trap.Overflow refl h.0 h.1 | inr h1 ↦
-    elim (chosen (eqb n 2) (Some trap.Divide) _ (Some kind) h1.1) [ inl h ↦ at 2 trap.Divide refl h.0 h.1 | inr h2 ↦
-    elim (chosen (eqb n 3) (Some trap.Loop) _ (Some kind) h2.1) [ inl h ↦ at 3 trap.Loop refl h.0 h.1 | inr h3 ↦
-    elim (chosen (eqb n 4) (Some trap.Key) _ (Some kind) h3.1) [ inl h ↦ at 4 trap.Key refl h.0 h.1 | inr h4 ↦
-    elim (chosen (eqb n 5) (Some trap.Join) _ (Some kind) h4.1) [ inl h ↦ at 5 trap.Join refl h.0 h.1 | inr h5 ↦
-    elim (chosen (eqb n 6) (Some trap.Txn) _ (Some kind) h5.1) [ inl h ↦ at 6 trap.Txn refl h.0 h.1 | inr h6 ↦
-    elim (chosen (eqb n 7) (Some trap.Text) _ (Some kind) h6.1) [ inl h ↦ at 7 trap.Text refl h.0 h.1 | inr h7 ↦
-    elim (chosen (eqb n 8) (Some trap.Kind) _ (Some kind) h7.1) [ inl h ↦ at 8 trap.Kind refl h.0 h.1 | inr h8 ↦
-    elim (chosen (eqb n 9) (Some trap.Spawn) None (Some kind) h8.1) [ inl h ↦ at 9 trap.Spawn refl h.0 h.1 | inr h9 ↦ absurd cc ] ] ] ] ] ] ] ] ]
+    λ k t is here same. let one : t ≡ kind = cc in ap trap_number (sym one) ∙ is ∙ sym (eqb-true n k here) in
+    elim (chosen (eqb n 1) (Some trap.Overflow) _ (Some kind) e) [
+      | inl h ↦ at 1 trap.Overflow refl h.0 h.1
+      | inr h1 ↦
+          elim (chosen (eqb n 2) (Some trap.Divide) _ (Some kind) h1.1) [
+            | inl h ↦ at 2 trap.Divide refl h.0 h.1
+            | inr h2 ↦
+                elim (chosen (eqb n 3) (Some trap.Loop) _ (Some kind) h2.1) [
+                  | inl h ↦ at 3 trap.Loop refl h.0 h.1
+                  | inr h3 ↦
+                      elim (chosen (eqb n 4) (Some trap.Key) _ (Some kind) h3.1) [
+                        | inl h ↦ at 4 trap.Key refl h.0 h.1
+                        | inr h4 ↦
+                            elim (chosen (eqb n 5) (Some trap.Join) _ (Some kind) h4.1) [
+                              | inl h ↦ at 5 trap.Join refl h.0 h.1
+                              | inr h5 ↦
+                                  elim (chosen (eqb n 6) (Some trap.Txn) _ (Some kind) h5.1) [
+                                    | inl h ↦ at 6 trap.Txn refl h.0 h.1
+                                    | inr h6 ↦
+                                        elim (chosen (eqb n 7) (Some trap.Text) _ (Some kind) h6.1) [
+                                          | inl h ↦ at 7 trap.Text refl h.0 h.1
+                                          | inr h7 ↦
+                                              elim (chosen (eqb n 8) (Some trap.Kind) _ (Some kind) h7.1) [
+                                                | inl h ↦ at 8 trap.Kind refl h.0 h.1
+                                                | inr h8 ↦
+                                                    elim (chosen (eqb n 9) (Some trap.Spawn) None (Some kind) h8.1) [ inl h ↦ at 9 trap.Spawn refl h.0 h.1 | inr h9 ↦ absurd cc ]
+                                              ]
+                                        ]
+                                  ]
+                            ]
+                      ]
+                ]
+          ]
+    ]
 
 trap_takes : (bytes : List ℕ) (kind : TrapKind) (rest : List ℕ) → IsBytes bytes → trap_at bytes ≡ Ok (kind, rest) → Takes bytes (trap_number kind ∷ []) rest × (true ≡ true)
 unfolding trap_at
-trap_takes [] kind rest fit e = absurd cc
-trap_takes (c ∷ bytes) kind rest fit e =
-    let k = known_ok (suc (length bytes)) (trap_of c) bytes kind rest e in
-    (record { parts = ap (λ (t : List ℕ). c ∷ t) k.1 ∙ ap (λ (m : ℕ). m ∷ rest) (sym (trap_number_of c kind k.0)); rest_fits = subst IsBytes k.1 (IsBytes-rest c bytes fit) }, refl)
+trap_takes [] which rest fit e = absurd cc
+trap_takes (c ∷ bytes) which rest fit e =
+    let k = known_ok (suc (length bytes)) (trap_of c) bytes which rest e in
+    (record { parts = ap (λ (t : List ℕ). c ∷ t) k.1 ∙ ap (λ (m : ℕ). m ∷ rest) (sym (trap_number_of c which k.0)); rest_fits = subst IsBytes k.1 (IsBytes-rest c bytes fit) }, refl)
 
 trap_again : (kind : TrapKind) (rest : List ℕ) → true ≡ true → trap_at (trap_number kind ∷ rest) ≡ Ok (kind, rest)
 unfolding trap_at
