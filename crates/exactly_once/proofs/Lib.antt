@@ -21,3 +21,5 @@ pub mod Ordered
 pub mod Reported
 pub mod Later
 pub mod MicroSteps
+pub mod SamePlace
+pub mod Orders

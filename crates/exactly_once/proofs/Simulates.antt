@@ -127,7 +127,7 @@ module _ (setup : Setup) (fs : List Function) (store : Store) where
       at each None = refl
       at each (Some s') = each s'
 
-  live_within : (n : ℕ) (xs : List (Live Body)) (c : ℕ) → Under n xs → is_live c xs ≡ true → c ≤ n
+  pub live_within : (n : ℕ) (xs : List (Live Body)) (c : ℕ) → Under n xs → is_live c xs ≡ true → c ≤ n
   live_within n [] c under is = cc
   live_within n (x ∷ xs) c under is = ⊎_elim (λ here. omega (arith, eqb-true c x.seq here, under.1, under.2)) (λ there. omega (arith, live_within under.0 xs c under.3 there, under.2)) (or_cases (eqb c x.seq) (is_live c xs) is)
 

@@ -17,7 +17,7 @@ use Rattle.exactly_once.proofs.Maps.{same_itself, keys_cases}
 
 -- The path of a step record is in range, and that of a child.
 
-step_path : (p : List ℕ) (i : ℕ) → is_step p i ≡ true → IsPath p
+pub step_path : (p : List ℕ) (i : ℕ) → is_step p i ≡ true → IsPath p
 step_path p i e = (and_parts (is_path p) (leb 1 i) (and_parts (is_path p && leb 1 i) (is_word i) e).0).0
 
 ordinals_push : (ns : List ℕ) (n : ℕ) → are_ordinals ns ≡ true → is_ordinal n ≡ true → are_ordinals (ns ++ n ∷ []) ≡ true

@@ -4,4 +4,5 @@ pub mod Runs
 pub mod Reported
 pub mod Invariant
 pub mod MicroSteps
+pub mod Orders
 pub mod Steps

@@ -41,3 +41,10 @@ ghost use Rattle.exactly_once.specs.MicroSteps.{MicroStepsKeep};
 pub fn micro_steps_keep()
     ensures { MicroStepsKeep }
 {}
+
+ghost use Rattle.exactly_once.specs.Orders.{OrdersKeep};
+
+/// Ordering a record that was sent keeps the invariant.
+pub fn orders_keep()
+    ensures { OrdersKeep }
+{}
