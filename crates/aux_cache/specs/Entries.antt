@@ -1,7 +1,7 @@
 -- What a cache keeps, as std's maps and the kit's `lru` write it: the entries, the most recently used first, and the most that
 -- there may be. An entry is a seqnum and its value.
-use Rattle.std.specs.Prelude.{ℕ, ◌≤◌, ◌<◌, nat_eq, List, length, Option}
-use Rattle.std.specs.Map.{lookup, lookup_entry}
+use Rattle.std.specs.Prelude.{ℕ, nat_eq, Option}
+use Rattle.std.specs.Map.{lookup}
 use Rattle.lru.specs.LruCache.{LruCache, lru_cache, promoted, put_entries}
 
 -- the value at a seqnum, where it has an entry

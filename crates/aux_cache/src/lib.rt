@@ -15,7 +15,7 @@ use std::num::NonZeroUsize;
 ///
 /// Contracts see it as its `entries`, each a seqnum and its value, the most recently used first, and as `cap`, the most entries
 /// that it may have. There are at most so many, and no seqnum has two.
-#[derive(Drop)]
+#[derive(Debug, Drop)]
 pub struct Cache<V> {
     entries: LruCache<u64, V>,
 }

@@ -1,5 +1,5 @@
 -- An index to which the next record is added shows the log with that record.
-use Rattle.std.proofs.Common.{◌≡◌, ℕ, zero, suc, ◌-◌, ◌<◌, ◌≤◌, Bool, true, false, cond, ◌&&◌, eqb, List, [], ◌∷◌, ◌++◌, length, reverse, get_or, slice_get, Option, Some, None, Result, Ok, Err, OnErr, refl, sym, ap, ◌∙◌, arith}
+use Rattle.std.proofs.Common.{◌≡◌, ℕ, zero, suc, ◌-◌, ◌<◌, Bool, true, false, cond, ◌&&◌, eqb, List, [], ◌∷◌, ◌++◌, length, reverse, get_or, slice_get, Option, Some, None, Result, Ok, Err, OnErr, refl, sym, ap, ◌∙◌, arith}
 use Rattle.std.specs.Option.{option_map_or}
 use Rattle.std.specs.HashMap.{HashMap}
 use Rattle.std.specs.declared.vec.Vec.{Vec}
@@ -7,10 +7,10 @@ use Rattle.std.proofs.lemmas.Bool.{ne_eqb}
 use Rattle.std.proofs.lemmas.List.{length-reverse, get_or-reverse}
 use mathlib.Core.List.{reverse-cons}
 use Rattle.lb_base.specs.declared.value.Cond.{Cond}
-use Rattle.boki_model.specs.Live.{Entry, Live, has_tag, meets, live}
+use Rattle.boki_model.specs.Live.{Entry, has_tag, meets, live}
 use Rattle.boki_model.specs.Reads.{tagged}
 use Rattle.boki_model.proofs.Logs.{live_falls}
-use Rattle.eng_index.specs.Lists.{ends_with, with_last, seqs, is_met}
+use Rattle.eng_index.specs.Lists.{with_last, seqs, is_met}
 use Rattle.eng_index.specs.Shown.{Kept, list_of, marks_of, Shows}
 use Rattle.eng_index.proofs.Ascending.{tagged_below}
 use Rattle.eng_index.proofs.Marks.{length-marks_of}

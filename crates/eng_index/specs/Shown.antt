@@ -24,13 +24,13 @@ abbrev pub mark_at : ℕ → List Bool → Bool
 mark_at zero marks = false
 mark_at (suc place) marks = unwrap_or (slice_get marks place) false
 
--- The index has the records of the log, which stands newest first, and no other. At most one log has these marks and lists, as
--- far as a read can tell.
+-- The index has the records of the log, the newest first, and no other. Where it shows two logs, each read answers the same for
+-- both.
 pub record Shows (log : List (Entry (List ℕ))) (kept : Kept) : Type 0 where
   pub lists : (tag : ℕ) → list_of tag kept ≡ reverse (tagged tag (live log))
   pub marks : kept.marks ≡ reverse (marks_of log)
 
--- no read can tell the two apart
+-- each read answers the same before and after
 pub record IsUnchanged (old new : Kept) : Type 0 where
   pub lists : (tag : ℕ) → list_of tag new ≡ list_of tag old
   pub marks : new.marks ≡ old.marks

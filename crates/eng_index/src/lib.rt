@@ -2,6 +2,8 @@
 #![tactic(auto)]
 
 mod lists;
+#[cfg(test)]
+mod tests;
 
 ghost use Rattle.std.specs.Prelude.{◌≡◌, ℕ, List, [], ◌∷◌, length, OnOk, OnErr, IsOkAnd, option_map};
 ghost use Rattle.boki_model.specs.Live.{Entry, entry_of, live, count, is_live};
@@ -16,9 +18,10 @@ use std::marker::Model;
 
 /// The index of the first records of the log, as many as were added.
 ///
-/// Each read has the answer that the log's live records have. A read takes no memory, and time that grows with the logarithm of
-/// the number of live records of its tag.
-#[derive(Drop)]
+/// Seqnums are counted from 1 and places from 0. Each read answers what the live records of the log say, and takes no memory. The
+/// time of `next` and `prev` grows with the logarithm of the number of the tag's live records, and that of the other reads and of
+/// `add` doesn't grow with the log.
+#[derive(Debug, Drop)]
 pub struct Index {
     alloc: Global,
     lists: Lists,
@@ -46,7 +49,9 @@ impl Index {
         })
     }
 
-    /// Adds the next record of the log. After `Memory` no read tells that the index was called.
+    /// Adds the next record of the log, live or dead by its condition. A tag that it carries twice counts once.
+    ///
+    /// Memory is taken first, so the record is added whole or not at all: after `Memory` each read answers as before.
     pub fn add(&mut self, rec: &Record) -> Result<(), Memory>
         ensures ok { OnOk result ((log : List (Entry (List ℕ))) → Shows log self.old → Shows (entry_of rec.now ∷ log) self.new) }
         ensures err { OnErr result (IsUnchanged self.old self.new) }

@@ -2,7 +2,7 @@
 use Rattle.std.proofs.Common.{◌≡◌, ◌⊎◌, inl, inr, ℕ, zero, suc, ◌+◌, ◌-◌, ◌*◌, ◌^◌, ◌<◌, ◌≤◌, List, [], ◌∷◌, ◌++◌, length, take, drop, get_or, sum, refl, sym, ap, ◌∙◌, subst, arith, mul-le-mul_right, suc-mul}
 use Rattle.std.proofs.lemmas.Bool.{cases_lt}
 use Rattle.std.proofs.lemmas.List.{length-take, length-drop, length-append, take-append-le, drop-append-le, drop_at, take_all, get_or-take, get_or-drop, get_or_append_left, get_or_at, length_push}
-use Rattle.boki_model.specs.Order.{first_count, other_counts, last_vector}
+use Rattle.boki_model.specs.Order.{last_vector}
 use Rattle.boki_model.specs.OrderLaws.{AreAtMost}
 use Rattle.boki_model.specs.Entries.{count_at}
 use Rattle.boki_model.proofs.EntryPlaces.{count_most}
@@ -65,6 +65,7 @@ sound_push w counts ends v h long most low = record {
     bounded : (k : ℕ) → k ≤ length ends → (k < length ends) ⊎ (length ends ≤ k) → get_or (ends ++ sum v ∷ []) k 0 ≤ 2 ^ 63
     bounded k le (inl lt) = omega (arith, get_or_append_left ends (sum v ∷ []) 0 k lt, h.few k lt)
     bounded k le (inr ge) = let e : length ends ≡ k = omega arith in omega (arith, get_or_at ends (sum v) [] 0 k e)
+
     grown : (k : ℕ) → suc k ≤ length ends → (suc k < length ends) ⊎ (length ends ≤ suc k) → AreAtMost (row w (counts ++ v) k) (row w (counts ++ v) (suc k))
     grown k le (inl lt) =
         subst (λ r. AreAtMost r (row w (counts ++ v) (suc k))) (sym (row_stays w k (length ends) counts v h.size (omega arith)))
@@ -74,8 +75,12 @@ sound_push w counts ends v h long most low = record {
         let f : length ends - 1 ≡ k = omega arith in
         subst (λ r. AreAtMost r (row w (counts ++ v) (suc k))) (sym (row_stays w k (length ends) counts v h.size (omega arith)))
         (subst (AreAtMost (row w counts k)) (sym (ap (row w (counts ++ v)) (sym e) ∙ row_new w (length ends) counts v h.size long))
-        (most_of (row w counts k) v (λ i. omega (arith, count_most i (last_vector (vectors_to (row w counts) (length ends - 1))) v most,
-            last_alike (row w counts) w (length ends - 1) (rows w counts ends h) i ∙ ap (λ j. count_at i (row w counts j)) f))))
+        (most_of (row w counts k) v (λ i. omega (
+          arith,
+          count_most i (last_vector (vectors_to (row w counts) (length ends - 1))) v most,
+          last_alike (row w counts) w (length ends - 1) (rows w counts ends h) i ∙ ap (λ j. count_at i (row w counts j)) f,
+        ))))
+
     summed : (k : ℕ) → k ≤ length ends → (k < length ends) ⊎ (length ends ≤ k) → get_or (ends ++ sum v ∷ []) k 0 ≡ sum (row w (counts ++ v) k)
     summed k le (inl lt) = get_or_append_left ends (sum v ∷ []) 0 k lt ∙ h.sums k lt ∙ ap sum (sym (row_stays w k (length ends) counts v h.size lt))
     summed k le (inr ge) =

@@ -2,3 +2,4 @@ mod Numbered
 mod Flat
 mod Searching
 mod Meaning
+mod Blank

@@ -1,14 +1,12 @@
 -- What the lists of a metalog say of the order.
-use Rattle.std.proofs.Common.{◌≡◌, ◌⊎◌, inl, inr, ℕ, zero, suc, ◌+◌, ◌-◌, ◌*◌, ◌^◌, ◌<◌, ◌≤◌, Bool, true, false, cond, eqb, List, [], ◌∷◌, ◌++◌, length, take, drop, get_or, replicate, sum, Option, Some, None, Result, IfOk, option_map, bytes_eq, refl, sym, ap, ap₂, ◌&&◌, ◌∙◌, subst, arith}
+use Rattle.std.proofs.Common.{◌≡◌, ◌⊎◌, inl, inr, ℕ, zero, suc, ◌+◌, ◌-◌, ◌*◌, ◌^◌, ◌<◌, ◌≤◌, true, false, eqb, List, [], ◌∷◌, ◌++◌, length, take, drop, get_or, replicate, sum, Some, None, option_map, bytes_eq, refl, sym, ap, ap₂, ◌&&◌, ◌∙◌, subst, arith}
 use Rattle.std.proofs.lemmas.Bool.{cases_lt, ne_eqb, eq-eqb, cond-true, cond-false, eqb-true}
 use Rattle.std.proofs.lemmas.Bool.Decides.{same_from_decides, Decides-eqb}
-use Rattle.std.proofs.lemmas.List.{length-take, length-drop, length-replicate, get_or-replicate, take_all}
-use Rattle.std.proofs.lemmas.Slice.Eq.{bytes_eq-Decides}
+use Rattle.std.proofs.lemmas.List.{length-replicate, take_all}
 use Rattle.lb_base.specs.declared.value.Record.{Record}
-use Rattle.boki_types.specs.declared.log.Cut.{Cut}
 use Rattle.boki_types.specs.declared.log.Cut.TheVariants as c
-use Rattle.boki_model.specs.Order.{first_count, other_counts, last_vector, order, ordered_places, at_seq, locate, seq_of}
-use Rattle.boki_model.specs.OrderLaws.{AreAtMost, Have}
+use Rattle.boki_model.specs.Order.{last_vector, order, ordered_places, at_seq, locate, seq_of}
+use Rattle.boki_model.specs.OrderLaws.{AreAtMost}
 use Rattle.boki_model.specs.Entries.{count_at, total, same_counts, place_within, number_within}
 use Rattle.boki_model.proofs.Places.{at_seq_past, at_seq_zero}
 use Rattle.boki_model.proofs.EntryPlaces.{count_most, seq_not_zero, seq_of_no_shard}
@@ -46,9 +44,11 @@ sound_new w counts ends zeros one =
   where
     first : row w (replicate w 0) 0 ≡ replicate w 0
     first = ap (take w) (ap (λ n. drop n (replicate w 0)) (let e : 0 * w ≡ 0 = omega arith in e)) ∙ take_all w (replicate w 0) (omega (arith, length-replicate {A = ℕ} w 0))
+
     starts : (k : ℕ) → k < 1 → get_or (0 ∷ []) k 0 ≡ sum (row w (replicate w 0) k)
     starts zero lt = sym (ap sum first ∙ sum_zeros w)
     starts (suc k) lt = absurd (let h : ⊥ = omega arith in h)
+
     low : (k : ℕ) → k < 1 → get_or (0 ∷ []) k 0 ≤ 2 ^ 63
     low zero lt = omega arith
     low (suc k) lt = absurd (let h : ⊥ = omega arith in h)
@@ -84,10 +84,10 @@ module _ (w : ℕ) (counts ends : List ℕ) (h : IsSound w counts ends) where
   length_ordered m view shards =
       let P : Recorded → Type 0 = λ m. AreOrdered shards m → get_or ends (length ends - 1) 0 ≡ length (order shards m.vectors) in
       subst P view (λ o.
-          h.sums (length ends - 1) (let s = h.some in omega arith)
-          ∙ sym (sum_last at w (length ends - 1) facts)
-          ∙ ap (λ n. total n (last_vector (vectors_to at (length ends - 1)))) (sym o.as_many)
-          ∙ sym (length_total shards (vectors_to at (length ends - 1)) (vectors_grow at w (length ends - 1) facts) o.have))
+      h.sums (length ends - 1) (let s = h.some in omega arith)
+      ∙ sym (sum_last at w (length ends - 1) facts)
+      ∙ ap (λ n. total n (last_vector (vectors_to at (length ends - 1)))) (sym o.as_many)
+      ∙ sym (length_total shards (vectors_to at (length ends - 1)) (vectors_grow at w (length ends - 1) facts) o.have))
 
   -- ends of entries
 
@@ -144,9 +144,9 @@ module _ (w : ℕ) (counts ends : List ℕ) (h : IsSound w counts ends) where
       let end = h.sums entry within in
       let top = ap (λ j. sum (at j)) e in
       subst P view (λ o.
-          ap (λ n. place_within w 0 (seq - n) (at (entry - 1)) (at entry)) start
-          ∙ ap (λ j. place_within w 0 (seq - sum (at (entry - 1))) (at (entry - 1)) (at j)) (sym e)
-          ∙ sym (locate_at at w shards o.as_many (length ends - 1) (entry - 1) seq facts o.have (omega arith) (omega arith) (omega arith)))
+      ap (λ n. place_within w 0 (seq - n) (at (entry - 1)) (at entry)) start
+      ∙ ap (λ j. place_within w 0 (seq - sum (at (entry - 1))) (at (entry - 1)) (at j)) (sym e)
+      ∙ sym (locate_at at w shards o.as_many (length ends - 1) (entry - 1) seq facts o.have (omega arith) (omega arith) (omega arith)))
 
   pub locate_none : (seq entry : ℕ) (m : Recorded) → recorded w counts ends ≡ m → ((entry ≡ 0) × (seq ≤ get_or ends 0 0)) ⊎ (get_or ends (length ends - 1) 0 < seq)
       → (shards : List (List Record)) → AreOrdered shards m → None ≡ locate seq shards m.vectors
@@ -174,10 +174,10 @@ module _ (w : ℕ) (counts ends : List ℕ) (h : IsSound w counts ends) where
       let new = column_count (shard - 1) entry (omega arith) in
       let top = ap (λ j. count_at (shard - 1) (at j)) e in
       subst P view (λ o.
-          ap (λ n. Some (n + number_within (shard - 1) local (at (entry - 1)) (at entry))) (h.sums (entry - 1) (omega arith))
-          ∙ ap (λ j. Some (sum (at (entry - 1)) + number_within (shard - 1) local (at (entry - 1)) (at j))) (sym e)
-          ∙ sym (seq_at at w shards o.as_many (length ends - 1) (entry - 1) (shard - 1) local facts o.have (omega arith) (omega arith) (omega arith) (omega arith))
-          ∙ ap (λ s. seq_of s local shards (vectors_to at (length ends - 1))) f)
+      ap (λ n. Some (n + number_within (shard - 1) local (at (entry - 1)) (at entry))) (h.sums (entry - 1) (omega arith))
+      ∙ ap (λ j. Some (sum (at (entry - 1)) + number_within (shard - 1) local (at (entry - 1)) (at j))) (sym e)
+      ∙ sym (seq_at at w shards o.as_many (length ends - 1) (entry - 1) (shard - 1) local facts o.have (omega arith) (omega arith) (omega arith) (omega arith))
+      ∙ ap (λ s. seq_of s local shards (vectors_to at (length ends - 1))) f)
 
   pub number_low : (shard local entry : ℕ) → 0 < shard → shard ≤ w → 0 < entry → entry < length ends
       → get_or counts ((entry - 1) * w + (shard - 1)) 0 < local → local ≤ get_or counts (entry * w + (shard - 1)) 0
@@ -202,8 +202,8 @@ module _ (w : ℕ) (counts ends : List ℕ) (h : IsSound w counts ends) where
       let P : Recorded → Type 0 = λ m. AreOrdered shards m → None ≡ seq_of shard local shards m.vectors in
       let f : suc (shard - 1) ≡ shard = omega arith in
       subst P view (λ o.
-          sym (seq_past at w shards o.as_many (length ends - 1) (shard - 1) local facts o.have (either out))
-          ∙ ap (λ s. seq_of s local shards (vectors_to at (length ends - 1))) f)
+      sym (seq_past at w shards o.as_many (length ends - 1) (shard - 1) local facts o.have (either out))
+      ∙ ap (λ s. seq_of s local shards (vectors_to at (length ends - 1))) f)
     where
       either : ((entry ≡ 0) × (local ≤ get_or counts (0 * w + (shard - 1)) 0)) ⊎ (get_or counts ((length ends - 1) * w + (shard - 1)) 0 < local) → (local ≡ 0) ⊎ (count_at (shard - 1) (at (length ends - 1)) < local)
       either (inl few) = inl (omega (arith, few.1, column_count (shard - 1) 0 (omega arith), h.first (shard - 1)))
@@ -229,6 +229,7 @@ module _ (w : ℕ) (counts ends : List ℕ) (h : IsSound w counts ends) where
     where
       turn : (a b : ℕ) → eqb a b ≡ eqb b a
       turn a b = same_from_decides (eqb a b) (eqb b a) (Decides-eqb a b) ((λ e. sym (eqb-true b a e)), (λ e. eq-eqb b a (sym e)))
+
       compare : (ns v : List ℕ) → length ns ≡ length v → same_counts ns v ≡ bytes_eq v ns
       compare [] [] e = refl
       compare [] (x ∷ v) e = absurd (let f : ⊥ = omega arith in f)
@@ -239,21 +240,23 @@ module _ (w : ℕ) (counts ends : List ℕ) (h : IsSound w counts ends) where
   cut_same progress m view long same =
       let P : Recorded → Type 0 = λ m. (c.Same ≡ cut_of progress m) × (m ≡ after_cut progress m) in
       let t = same_as_row progress long ∙ same in
-      subst P view
-          (sym (cond-true _ c.Same (c.Entry (suc (length (vectors_to at (length ends - 1))))) t),
-          sym (cond-true _ (recorded w counts ends) (record (recorded w counts ends) { vectors = progress ∷ vectors_to at (length ends - 1) }) t))
+      subst P view (
+        sym (cond-true _ c.Same (c.Entry (suc (length (vectors_to at (length ends - 1))))) t),
+        sym (cond-true _ (recorded w counts ends) (record (recorded w counts ends) { vectors = progress ∷ vectors_to at (length ends - 1) }) t),
+      )
 
   pub cut_entry : (progress : List ℕ) (m : Recorded) (end : ℕ) → recorded w counts ends ≡ m → length progress ≡ w → bytes_eq (at (length ends - 1)) progress ≡ false → end ≡ sum progress
       → (c.Entry (length ends - 1 + 1) ≡ cut_of progress m) × (recorded w (counts ++ progress) (ends ++ end ∷ []) ≡ after_cut progress m)
   cut_entry progress m end view long other is =
       let P : Recorded → Type 0 = λ m. (c.Entry (length ends - 1 + 1) ≡ cut_of progress m) × (recorded w (counts ++ progress) (ends ++ end ∷ []) ≡ after_cut progress m) in
       let t = same_as_row progress long ∙ other in
-      subst P view
-          (ap c.Entry (let f : length ends - 1 + 1 ≡ suc (length (vectors_to at (length ends - 1))) = omega (arith, length_vectors at w (length ends - 1)) in f)
-              ∙ sym (cond-false _ c.Same (c.Entry (suc (length (vectors_to at (length ends - 1))))) t),
-          ap (λ n. recorded w (counts ++ progress) (ends ++ n ∷ [])) is
-              ∙ recorded_push w counts ends progress h long
-              ∙ sym (cond-false _ (recorded w counts ends) (record (recorded w counts ends) { vectors = progress ∷ vectors_to at (length ends - 1) }) t))
+      subst P view (
+        ap c.Entry (let f : length ends - 1 + 1 ≡ suc (length (vectors_to at (length ends - 1))) = omega (arith, length_vectors at w (length ends - 1)) in f)
+            ∙ sym (cond-false _ c.Same (c.Entry (suc (length (vectors_to at (length ends - 1))))) t),
+        ap (λ n. recorded w (counts ++ progress) (ends ++ n ∷ [])) is
+            ∙ recorded_push w counts ends progress h long
+            ∙ sym (cond-false _ (recorded w counts ends) (record (recorded w counts ends) { vectors = progress ∷ vectors_to at (length ends - 1) }) t),
+      )
 
   pub cut_sound : (progress : List ℕ) (m : Recorded) (end : ℕ) → recorded w counts ends ≡ m → length progress ≡ w → AreAtMost (last_vector m.vectors) progress → sum progress ≤ 2 ^ 63 → end ≡ sum progress
       → IsSound w (counts ++ progress) (ends ++ end ∷ [])

@@ -1,10 +1,10 @@
 -- The order of vectors that are numbered from the oldest, behind a vector of zeros.
-use Rattle.std.proofs.Common.{◌≡◌, ◌⊎◌, inl, inr, ℕ, zero, suc, ◌+◌, ◌-◌, ◌*◌, ◌<◌, ◌≤◌, Bool, true, false, cond, ◌&&◌, eqb, leb, List, [], ◌∷◌, length, get_or, sum, Option, Some, None, refl, sym, ap, ap₂, ◌∙◌, subst, arith}
+use Rattle.std.proofs.Common.{◌≡◌, ◌⊎◌, inl, inr, ℕ, zero, suc, ◌+◌, ◌-◌, ◌<◌, ◌≤◌, cond, ◌&&◌, eqb, leb, List, [], ◌∷◌, length, sum, Some, None, refl, sym, ap, ap₂, ◌∙◌, subst, arith}
 use Rattle.std.proofs.lemmas.Bool.{cases_lt}
 use Rattle.lb_base.specs.declared.value.Record.{Record}
 use Rattle.boki_model.specs.Order.{first_count, other_counts, last_vector, ordered_places, seq_of, locate}
 use Rattle.boki_model.specs.OrderLaws.{AreAtMost, Grow, Have}
-use Rattle.boki_model.specs.Entries.{count_at, total, same_counts, entry_size, place_within, number_within}
+use Rattle.boki_model.specs.Entries.{count_at, total, same_counts, place_within, number_within}
 use Rattle.boki_model.proofs.Orders.{have_less}
 use Rattle.boki_model.proofs.Places.{at_seq_past}
 use Rattle.boki_model.proofs.EntryPlaces.{count_most, locate_new, locate_old, seq_of_new, seq_of_old, seq_not_counted}
@@ -28,7 +28,7 @@ place_alike zero k q u v new same = refl
 place_alike (suc w) k q u v new same =
     ap (λ o. cond (leb q (first_count new - o)) (Some (suc k, o + q)) (place_within w (suc k) (q - (first_count new - o)) (other_counts u) (other_counts new))) (same 0)
     ∙ ap (cond (leb q (first_count new - first_count v)) (Some (suc k, first_count v + q)))
-        (place_alike w (suc k) (q - (first_count new - first_count v)) (other_counts u) (other_counts v) (other_counts new) (others u v same))
+    (place_alike w (suc k) (q - (first_count new - first_count v)) (other_counts u) (other_counts v) (other_counts new) (others u v same))
 
 number_alike : (i l : ℕ) (u v new : List ℕ) → Alike u v → number_within i l u new ≡ number_within i l v new
 number_alike zero l u v new same = ap (λ o. l - o) (same 0)
@@ -112,7 +112,7 @@ module _ (at : ℕ → List ℕ) (w : ℕ) where
     have_before : (n : ℕ) → Rows at w (suc n) → Have shards (at (suc n)) → Have shards (last_vector (vectors_to at n))
     have_before n h have =
         have_alike shards (at n) (last_vector (vectors_to at n)) (λ i. sym (last_alike n (fewer at w (suc n) n (omega arith) h) i))
-            (have_less shards (at n) (at (suc n)) (h.grow n (omega arith)) have)
+        (have_less shards (at n) (at (suc n)) (h.grow n (omega arith)) have)
 
     pub places_sum : (n : ℕ) → Rows at w n → Have shards (last_vector (vectors_to at n)) → length (ordered_places shards (vectors_to at n)) ≡ sum (at n)
     places_sum n h have =
@@ -128,10 +128,13 @@ module _ (at : ℕ → List ℕ) (w : ℕ) where
       where
         less : Rows at w n
         less = fewer at w (suc n) n (omega arith) h
+
         before : Have shards (last_vector (vectors_to at n))
         before = have_before n h have
+
         size : length (ordered_places shards (vectors_to at n)) ≡ sum (at n)
         size = places_sum n less before
+
         here : k ≡ n → locate q shards (vectors_to at (suc n)) ≡ place_within w 0 (q - sum (at k)) (at k) (at (suc k))
         here e =
             locate_new shards q (at (suc n)) (vectors_to at n) (vectors_grow (suc n) h) have (let f : sum (at n) < q = subst (λ j. sum (at j) < q) e above in let g = size in omega arith)
@@ -139,6 +142,7 @@ module _ (at : ℕ → List ℕ) (w : ℕ) where
             ∙ ap (λ m. place_within m 0 (q - sum (at n)) (last_vector (vectors_to at n)) (at (suc n))) many
             ∙ place_alike w 0 (q - sum (at n)) (last_vector (vectors_to at n)) (at n) (at (suc n)) (last_alike n less)
             ∙ ap (λ j. place_within w 0 (q - sum (at j)) (at j) (at (suc j))) (sym e)
+
         cases : (k < n → sum (at k) < q → q ≤ sum (at (suc k)) → locate q shards (vectors_to at n) ≡ place_within w 0 (q - sum (at k)) (at k) (at (suc k))) → (k < n) ⊎ (n ≤ k)
             → locate q shards (vectors_to at (suc n)) ≡ place_within w 0 (q - sum (at k)) (at k) (at (suc k))
         cases ih (inl old) =
@@ -156,10 +160,13 @@ module _ (at : ℕ → List ℕ) (w : ℕ) where
       where
         less : Rows at w n
         less = fewer at w (suc n) n (omega arith) h
+
         before : Have shards (last_vector (vectors_to at n))
         before = have_before n h have
+
         size : length (ordered_places shards (vectors_to at n)) ≡ sum (at n)
         size = places_sum n less before
+
         counted : (m : ℕ) → suc k ≤ m → m ≤ n → l ≤ count_at i (at m)
         counted zero low top = absurd (let f : ⊥ = omega arith in f)
         counted (suc m) low top = either (counted m) (cases_lt k m)
@@ -167,15 +174,17 @@ module _ (at : ℕ → List ℕ) (w : ℕ) where
             either : (suc k ≤ m → m ≤ n → l ≤ count_at i (at m)) → (k < m) ⊎ (m ≤ k) → l ≤ count_at i (at (suc m))
             either ih (inl more) = omega (arith, ih more (omega arith), count_most i (at m) (at (suc m)) (h.grow m (omega arith)))
             either ih (inr same) = subst (λ j. l ≤ count_at i (at (suc j))) (let e : k ≡ m = omega arith in e) upto
+
         here : k ≡ n → seq_of (suc i) l shards (vectors_to at (suc n)) ≡ Some (sum (at k) + number_within i l (at k) (at (suc k)))
         here e =
             seq_of_new shards i l (at (suc n)) (vectors_to at n) (vectors_grow (suc n) h) have (omega arith)
-                (let f : count_at i (at n) < l = subst (λ j. count_at i (at j) < l) e above in omega (arith, last_alike n less i))
-                (subst (λ j. l ≤ count_at i (at (suc j))) e upto)
+            (let f : count_at i (at n) < l = subst (λ j. count_at i (at j) < l) e above in omega (arith, last_alike n less i))
+            (subst (λ j. l ≤ count_at i (at (suc j))) e upto)
             ∙ ap (λ m. Some (number_within i l (last_vector (vectors_to at n)) (at (suc n)) + m)) size
             ∙ ap (λ m. Some (m + sum (at n))) (number_alike i l (last_vector (vectors_to at n)) (at n) (at (suc n)) (last_alike n less))
             ∙ ap Some (let f : number_within i l (at n) (at (suc n)) + sum (at n) ≡ sum (at n) + number_within i l (at n) (at (suc n)) = omega arith in f)
             ∙ ap (λ j. Some (sum (at j) + number_within i l (at j) (at (suc j)))) (sym e)
+
         cases : (k < n → i < w → count_at i (at k) < l → l ≤ count_at i (at (suc k)) → seq_of (suc i) l shards (vectors_to at n) ≡ Some (sum (at k) + number_within i l (at k) (at (suc k)))) → (k < n) ⊎ (n ≤ k)
             → seq_of (suc i) l shards (vectors_to at (suc n)) ≡ Some (sum (at k) + number_within i l (at k) (at (suc k)))
         cases ih (inl old) =

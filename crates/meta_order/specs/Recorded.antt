@@ -1,5 +1,5 @@
 -- What the metalog has: the number of shards, and the vectors, the newest first. Each has a count for each shard.
-use Rattle.std.specs.Prelude.{◌≡◌, ℕ, suc, ◌+◌, ◌*◌, cond, List, [], ◌∷◌, length, take, drop, sum, Option, option_map}
+use Rattle.std.specs.Prelude.{◌≡◌, ℕ, suc, cond, List, ◌∷◌, length, sum, Option, option_map}
 use Rattle.lb_base.specs.declared.value.Record.{Record}
 use Rattle.boki_types.specs.declared.log.Cut.{Cut}
 use Rattle.boki_types.specs.declared.log.Cut.TheVariants as c

@@ -1,7 +1,10 @@
 //! The metalog, and with it the one order of the log.
 #![tactic(auto)]
 
+pub mod laws;
 mod metalog;
+#[cfg(test)]
+mod tests;
 mod vectors;
 
 pub use metalog::Metalog;

@@ -70,7 +70,12 @@ pub fn number_in(old: &[u64], new: &[u64], shard: usize, local: u64, start: u64)
 }
 
 /// Adds a vector and its sum. After `Memory` both lists are as before.
-pub fn push_row(counts: &mut Vec<u64>, ends: &mut Vec<u64>, progress: &[u64], end: u64) -> Result<(), Memory>
+pub fn push_row(
+    counts: &mut Vec<u64>,
+    ends: &mut Vec<u64>,
+    progress: &[u64],
+    end: u64,
+) -> Result<(), Memory>
     ensures counts { OnOk result (counts.new.items ≡ counts.old.items ++ progress.now) }
     ensures ends { OnOk result (ends.new.items ≡ ends.old.items ++ end ∷ []) }
     ensures counts_stay { OnErr result (counts.new.items ≡ counts.old.items) }

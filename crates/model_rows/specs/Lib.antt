@@ -6,6 +6,7 @@ pub mod Children
 pub mod Conditions
 pub mod LateWrite
 pub mod LostReply
+pub mod MarkerAdoptedTwice
 pub mod MissingObject
 pub mod MixedFormats
 pub mod NamesRead
@@ -14,10 +15,12 @@ pub mod QueueInOrder
 pub mod ReadAtACursor
 pub mod ReadGroup
 pub mod ReadOfAVersion
+pub mod RepeatedBehindAFence
 pub mod RepeatedVersion
 pub mod RestartedEngine
 pub mod Smallest
 pub mod StaleSwitchEnd
+pub mod SweptNames
 pub mod Switch
 pub mod TrapKinds
 pub mod Traps

@@ -9,6 +9,7 @@ ghost use Rattle.model_rows.specs.Children.{ChildrenRun};
 ghost use Rattle.model_rows.specs.Conditions.{ConditionsRun};
 ghost use Rattle.model_rows.specs.LateWrite.{LateWriteRun};
 ghost use Rattle.model_rows.specs.LostReply.{LostReplyRun};
+ghost use Rattle.model_rows.specs.MarkerAdoptedTwice.{MarkerAdoptedTwiceRun};
 ghost use Rattle.model_rows.specs.MissingObject.{MissingObjectRun};
 ghost use Rattle.model_rows.specs.MixedFormats.{MixedFormatsRun};
 ghost use Rattle.model_rows.specs.NamesRead.{NamesReadRun};
@@ -17,10 +18,12 @@ ghost use Rattle.model_rows.specs.QueueInOrder.{QueueInOrderRun};
 ghost use Rattle.model_rows.specs.ReadAtACursor.{ReadAtACursorRun};
 ghost use Rattle.model_rows.specs.ReadGroup.{ReadGroupRun};
 ghost use Rattle.model_rows.specs.ReadOfAVersion.{ReadOfAVersionRun};
+ghost use Rattle.model_rows.specs.RepeatedBehindAFence.{RepeatedBehindAFenceRun};
 ghost use Rattle.model_rows.specs.RepeatedVersion.{RepeatedVersionRun};
 ghost use Rattle.model_rows.specs.RestartedEngine.{RestartedEngineRun};
 ghost use Rattle.model_rows.specs.Smallest.{SmallestRun};
 ghost use Rattle.model_rows.specs.StaleSwitchEnd.{StaleSwitchEndRun};
+ghost use Rattle.model_rows.specs.SweptNames.{SweptNamesRun};
 ghost use Rattle.model_rows.specs.Switch.{SwitchRun};
 ghost use Rattle.model_rows.specs.TrapKinds.{TrapKindsRun};
 ghost use Rattle.model_rows.specs.Traps.{TrapsRun};
@@ -55,6 +58,11 @@ pub fn late_write()
 /// A lost reply: the record that is sent again is dead, and nothing is done twice.
 pub fn lost_reply()
     ensures { LostReplyRun }
+{}
+
+/// A marker answers what was written below it, also to an attempt that adopts it after a version at its own seqnum.
+pub fn marker_adopted_twice()
+    ensures { MarkerAdoptedTwiceRun }
 {}
 
 /// A missing object reads as none, and a sum with none traps.
@@ -97,6 +105,11 @@ pub fn read_of_a_version()
     ensures { ReadOfAVersionRun }
 {}
 
+/// A free write that is there is done, also where a later read has fenced its object.
+pub fn repeated_behind_a_fence()
+    ensures { RepeatedBehindAFenceRun }
+{}
+
 /// In mode W a free write that a second attempt and a missed call repeat is one version.
 pub fn repeated_version()
     ensures { RepeatedVersionRun }
@@ -115,6 +128,11 @@ pub fn smallest()
 /// A record that was sent to end one switch doesn't end the next one early.
 pub fn stale_switch_end()
     ensures { StaleSwitchEndRun }
+{}
+
+/// What the store holds before and after a sweep passes two logged writes.
+pub fn swept_names()
+    ensures { SweptNamesRun }
 {}
 
 /// A switch from mode R to W waits for an invocation that began before it; between them the mode is T.

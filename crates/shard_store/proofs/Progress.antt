@@ -1,11 +1,11 @@
 -- The progress never falls.
-use Rattle.std.proofs.Common.{◌≡◌, ◌⊎◌, inl, inr, ℕ, zero, suc, ◌+◌, ◌-◌, ◌<◌, ◌≤◌, min, List, [], ◌∷◌, ◌++◌, length, get_or, set, refl, sym, ap, ◌∙◌, subst, arith}
+use Rattle.std.proofs.Common.{ℕ, zero, suc, ◌+◌, ◌-◌, ◌≤◌, min, List, [], ◌∷◌, ◌++◌, length, get_or, set, arith}
 use Rattle.std.proofs.lemmas.List.{length_push}
 use Rattle.lb_base.specs.declared.value.Record.{Record}
 use Rattle.boki_model.specs.Order.{least_count, progress}
 use Rattle.boki_model.specs.OrderLaws.{AreAtMost, Have, add_to}
-use Rattle.shard_store.specs.Kept.{Kept, appended, after_copy, copied}
-use Rattle.shard_store.specs.ProgressLaws.{progress_of_all, NeverFalls}
+use Rattle.shard_store.specs.Kept.{Kept, copied}
+use Rattle.shard_store.specs.ProgressLaws.{NeverFalls}
 
 least_most : (n : ℕ) (cs : List ℕ) → least_count n cs ≤ n
 least_most n [] = omega arith

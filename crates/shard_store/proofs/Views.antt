@@ -1,12 +1,12 @@
 -- The shards as lists of their parts.
-use Rattle.std.proofs.Common.{◌≡◌, ℕ, zero, suc, ◌+◌, ◌-◌, ◌<◌, ◌≤◌, min, List, [], ◌∷◌, ◌++◌, length, map, take, get_or, set, replicate, slice_get, option_map, option_and_then, Option, Some, None, Result, IfOk, refl, sym, ap, ap₂, ◌∙◌, subst, arith}
+use Rattle.std.proofs.Common.{◌≡◌, ℕ, zero, suc, ◌+◌, ◌-◌, ◌<◌, ◌≤◌, min, List, [], ◌∷◌, ◌++◌, length, map, take, get_or, set, replicate, slice_get, option_map, option_and_then, Option, Some, None, Result, IfOk, refl, sym, ap, ◌∙◌, subst, arith}
 use Rattle.std.proofs.lemmas.Option.{slice_get-map}
 use Rattle.std.proofs.lemmas.Result.{IfOk-weaker}
 use Rattle.std.proofs.lemmas.List.{length-map, take_more, take_more_set, take_all, get_or-map}
 use Rattle.lb_base.specs.declared.value.Record.{Record}
 use Rattle.boki_model.specs.Order.{least_count, progress}
 use Rattle.boki_model.specs.OrderLaws.{local_record, record_at, add_to}
-use Rattle.shard_store.specs.Kept.{Held, Kept, empty_shards, records_of, counts_of, HasShard, HasReplica, count_of, appended, copied, after_copy}
+use Rattle.shard_store.specs.Kept.{Held, Kept, empty_shards, records_of, HasShard, appended, copied, after_copy}
 
 abbrev pub records : List Held → List (List Record)
 records items = map (λ h. h.records) items
@@ -80,8 +80,8 @@ append_ok res items shard h h' r k view has is ok =
     at has =
         let lt : shard - 1 < length items = omega (arith, has.0, has.1, length-map items (λ (h : Held). h.records)) in
         IfOk-weaker res (λ local. (local ≡ suc (length h.records)) × (h' ≡ record h { records = h.records ++ r ∷ [] }))
-            (λ local. (local ≡ suc (length (records_of shard (kept items)))) × (kept (set items (shard - 1) h') ≡ appended shard r (kept items)))
-            (λ local p. (p.0 ∙ ap (λ l. suc (length l)) (length-records items (shard - 1) h lt is), ap (λ g. kept (set items (shard - 1) g)) p.1 ∙ with_record items (shard - 1) h r lt is)) ok
+        (λ local. (local ≡ suc (length (records_of shard (kept items)))) × (kept (set items (shard - 1) h') ≡ appended shard r (kept items)))
+        (λ local p. (p.0 ∙ ap (λ l. suc (length l)) (length-records items (shard - 1) h lt is), ap (λ g. kept (set items (shard - 1) g)) p.1 ∙ with_record items (shard - 1) h r lt is)) ok
 
 pub copy_after : (items : List Held) (shard replica n count : ℕ) (h h' : Held) (k : Kept) → kept items ≡ k → HasShard shard k → h ≡ get_or items (shard - 1) h
     → count ≡ min n (length h.records - get_or h.counts (replica - 2) 0) → h' ≡ record h { counts = set h.counts (replica - 2) (get_or h.counts (replica - 2) 0 + count) }
@@ -97,12 +97,13 @@ copy_after items shard replica n count h h' k view has is many after =
         let cs = counts_are items (shard - 1) h lt is in
         let amount : List Record → List ℕ → ℕ = λ rs cs. min n (length rs - get_or cs (replica - 2) 0) in
         let state : List ℕ → ℕ → Kept = λ cs m. record (kept items) { counts = set (counts items) (shard - 1) (set cs (replica - 2) (get_or cs (replica - 2) 0 + m)) } in
-        let same : count ≡ copied shard replica n (kept items) = many ∙ ap (λ l. amount l h.counts) rs ∙ ap (amount (get_or (records items) (shard - 1) [])) cs in
-        (same,
-            ap (λ g. kept (set items (shard - 1) g)) after
-            ∙ with_counts items (shard - 1) h (set h.counts (replica - 2) (get_or h.counts (replica - 2) 0 + count)) lt is
-            ∙ ap (λ l. state l count) cs
-            ∙ ap (state (get_or (counts items) (shard - 1) [])) same)
+        let same : count ≡ copied shard replica n (kept items) = many ∙ ap (λ l. amount l h.counts) rs ∙ ap (amount (get_or (records items) (shard - 1) [])) cs in (
+          same,
+          ap (λ g. kept (set items (shard - 1) g)) after
+              ∙ with_counts items (shard - 1) h (set h.counts (replica - 2) (get_or h.counts (replica - 2) 0 + count)) lt is
+              ∙ ap (λ l. state l count) cs
+              ∙ ap (state (get_or (counts items) (shard - 1) [])) same,
+        )
 
 pub new_is : (items : List Held) (n others shards replicas : ℕ) → items ≡ replicate n (record { records = []; counts = replicate others 0 }) → n ≡ shards → others ≡ replicas - 1 → kept items ≡ empty_shards shards replicas
 new_is items n others shards replicas is many each =

@@ -1,6 +1,6 @@
 -- What the shards hold: the records of each, the oldest first, and how many of them each replica has. The first replica has
 -- all; a shard's counts are those of the replicas from the second on. Shards, replicas and records are numbered from 1.
-use Rattle.std.specs.Prelude.{ℕ, suc, ◌+◌, ◌-◌, ◌<◌, ◌≤◌, min, List, [], ◌∷◌, ◌++◌, length, replicate, slice_index, slice_index_or, slice_set}
+use Rattle.std.specs.Prelude.{ℕ, ◌+◌, ◌-◌, ◌<◌, ◌≤◌, min, List, [], length, replicate, slice_index, slice_index_or, slice_set}
 use Rattle.lb_base.specs.declared.value.Record.{Record}
 use Rattle.boki_model.specs.OrderLaws.{add_to}
 

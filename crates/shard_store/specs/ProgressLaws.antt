@@ -1,9 +1,9 @@
 -- Laws of the progress that a cut orders.
-use Rattle.std.specs.Prelude.{ℕ, ◌-◌, ◌<◌, ◌≤◌, List, length}
+use Rattle.std.specs.Prelude.{ℕ, List}
 use Rattle.lb_base.specs.declared.value.Record.{Record}
 use Rattle.boki_model.specs.Order.{progress}
 use Rattle.boki_model.specs.OrderLaws.{AreAtMost, Have}
-use Rattle.shard_store.specs.Kept.{Kept, HasShard, appended, after_copy}
+use Rattle.shard_store.specs.Kept.{Kept, appended, after_copy}
 
 abbrev pub progress_of_all : Kept → List ℕ
 progress_of_all kept = progress kept.shards kept.counts

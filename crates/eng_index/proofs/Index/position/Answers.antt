@@ -1,4 +1,4 @@
-use Rattle.std.proofs.Common.{length, sym, ap, ◌∙◌}
+use Rattle.std.proofs.Common.{length, ap, ◌∙◌}
 use Rattle.eng_index.proofs.Added.{marks_count}
 use Rattle.eng_index.proofs.Index.position.Goals as goal
 

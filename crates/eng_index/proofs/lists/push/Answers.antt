@@ -1,4 +1,4 @@
-use Rattle.std.proofs.Common.{◌∙◌, sym, ap, cond, eqb, take, arith}
+use Rattle.std.proofs.Common.{◌∙◌, sym, ap, cond, take, arith}
 use Rattle.boki_model.specs.Live.{has_tag}
 use Rattle.eng_index.specs.Lists.{seqs, with_last}
 use Rattle.eng_index.proofs.Tags.{has_tag_more, has_tag_at}

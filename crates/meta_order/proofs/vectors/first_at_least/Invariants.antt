@@ -1,4 +1,4 @@
-use Rattle.std.proofs.Common.{◌+◌, ◌-◌, ◌*◌, ◌<◌, ◌≤◌, get_or}
+use Rattle.std.proofs.Common.{◌-◌}
 use Rattle.meta_order.proofs.Searching.{Between}
 use Rattle.meta_order.proofs.vectors.first_at_least.Given as goal
 

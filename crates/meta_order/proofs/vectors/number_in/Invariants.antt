@@ -1,4 +1,4 @@
-use Rattle.std.proofs.Common.{◌≡◌, ◌+◌, ◌-◌, length, drop}
+use Rattle.std.proofs.Common.{◌≡◌, ◌+◌, ◌-◌, drop}
 use Rattle.boki_model.specs.Entries.{number_within}
 use Rattle.meta_order.proofs.vectors.number_in.Given as goal
 

@@ -12,9 +12,10 @@ returns-then-entry-eq0 c =
     let entry = c.first_at_least-entry.result in
     let some = h.some in
     locate_none w counts ends h c.args.seq.0 entry c.args.self.now view
-        (elim c.then-entry-eq0.either [
-          | inl e ↦ inl (omega arith, omega (arith, plain ends entry, plain ends 0, ap (λ k. get_or ends k 0) e))
-          | inr p ↦ inr (omega (arith, plain ends (entry - 1), ap (λ k. get_or ends (k - 1) 0) p.1)) ])
+    (elim c.then-entry-eq0.either [
+      | inl e ↦ inl (omega arith, omega (arith, plain ends entry, plain ends 0, ap (λ k. get_or ends k 0) e))
+      | inr p ↦ inr (omega (arith, plain ends (entry - 1), ap (λ k. get_or ends (k - 1) 0) p.1))
+    ])
 
 pub place_in-requires-clause-long : goal.place_in-requires-clause-long
 place_in-requires-clause-long c =
@@ -42,6 +43,6 @@ returns c =
     let entry = c.first_at_least-entry.result in
     let is = locate_is w counts ends h c.args.seq.0 entry c.args.self.now view (omega arith) (omega arith) (omega (arith, plain ends (entry - 1))) (omega (arith, plain ends entry)) in
     λ shards are.
-        c.place_in.ensures
-        ∙ place_at w entry (c.args.seq.0 - get_or ends (entry - 1) 0) counts ends c.row_of-old.result.now c.row_of-new.result.now h c.row_of-old.ensures c.row_of-new.ensures (omega arith)
-        ∙ is shards are
+    c.place_in.ensures
+    ∙ place_at w entry (c.args.seq.0 - get_or ends (entry - 1) 0) counts ends c.row_of-old.result.now c.row_of-new.result.now h c.row_of-old.ensures c.row_of-new.ensures (omega arith)
+    ∙ is shards are

@@ -1,4 +1,4 @@
-use Rattle.std.proofs.Common.{◌≡◌, ℕ, List, replicate, rules}
+use Rattle.std.proofs.Common.{◌≡◌, replicate, rules}
 use Rattle.meta_order.proofs.Meaning.{sound_new}
 use Rattle.meta_order.proofs.metalog.Metalog.new.Goals as goal
 

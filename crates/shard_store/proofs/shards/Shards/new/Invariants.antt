@@ -1,5 +1,4 @@
 use Rattle.std.proofs.Common.{◌≡◌, [], replicate}
-use Rattle.shard_store.specs.Kept.{Held}
 use Rattle.shard_store.proofs.shards.Shards.new.Given as goal
 
 abbrev pub invariant-loop : goal.invariant-loop

@@ -1,0 +1,7 @@
+use Rattle.std.proofs.Common.{◌≡◌, ◌-◌}
+use Rattle.rec_codec.specs.Answers.{with_front}
+use Rattle.rec_codec.specs.Reading.{many_at, write_at}
+use Rattle.rec_codec.proofs.lists.many_writes.Given as goal
+
+abbrev pub invariant-loop : goal.invariant-loop
+invariant-loop l = with_front l.list (many_at write_at (l.count - l.counter) l.rest) ≡ many_at write_at l.count l.bytes

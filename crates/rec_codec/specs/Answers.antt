@@ -1,0 +1,33 @@
+-- What a function that reads has answered.
+use Rattle.std.specs.Prelude.{◌≡◌, ℕ, List, [], ◌∷◌, ◌++◌, Result, Ok, Err}
+use Rattle.rec_codec.specs.declared.fault.Stop.{Stop}
+use Rattle.rec_codec.specs.declared.fault.Stop.TheVariants as stop
+use Rattle.rec_codec.specs.declared.fault.DecodeFault.{DecodeFault}
+use Rattle.rec_codec.specs.declared.fault.DecodeFault.TheVariants as fault
+use Rattle.rec_codec.specs.Reading.{◌>>=◌}
+
+-- It is what reading gives, unless memory ran out.
+abbrev pub Fails : {Y : Type 0} → Stop → Result Y ℕ → Type 0
+Fails stop.Memory reading = Unit {0}
+Fails (stop.Left left) reading = reading ≡ Err left
+
+abbrev pub Gives : {X Y : Type 0} → (X → Y) → Result X Stop → Result Y ℕ → Type 0
+Gives view (Ok x) reading = reading ≡ Ok (view x)
+Gives view (Err e) reading = Fails e reading
+
+-- The same of a whole record, whose fault tells the place.
+abbrev pub IsFault : {Y : Type 0} → DecodeFault → Result Y ℕ → Type 0
+IsFault fault.Memory reading = Unit {0}
+IsFault (fault.Bad place) reading = reading ≡ Err place
+
+abbrev pub Decodes : {Y : Type 0} → Result Y DecodeFault → Result Y ℕ → Type 0
+Decodes (Ok body) reading = reading ≡ Ok body
+Decodes (Err e) reading = IsFault e reading
+
+-- what was read before, and what is still read
+abbrev pub with_front : {A : Type 0} → List A → Result (List A × List ℕ) ℕ → Result (List A × List ℕ) ℕ
+with_front front reading = reading >>= λ x. Ok (front ++ x.0, x.1)
+
+-- what was read before, and one more
+abbrev pub with_one : {A : Type 0} → List A → Result (A × List ℕ) ℕ → Result (List A × List ℕ) ℕ
+with_one front reading = reading >>= λ x. Ok (front ++ x.0 ∷ [], x.1)

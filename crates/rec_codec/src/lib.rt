@@ -1,0 +1,19 @@
+//! Records as bytes: the one spelling of each body, and the body that bytes spell.
+#![tactic(auto)]
+
+mod decoding;
+mod elements;
+mod fault;
+mod kinds;
+mod laws;
+mod lists;
+mod names;
+mod pieces;
+mod tags;
+mod values;
+
+pub use boki_types::Body;
+pub use decoding::decode;
+pub use fault::{DecodeFault, EncodeFault};
+pub use laws::{one_spelling, read_is_spelled, spelled_is_read};
+pub use tags::key_tag;
