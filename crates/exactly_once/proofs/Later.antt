@@ -15,11 +15,11 @@ use Rattle.boki_types.specs.declared.program.Function.{Function}
 use Rattle.boki_model.specs.Live.{Entry, Live, upto}
 use Rattle.boki_model.specs.Bodies.{child, step_of}
 use Rattle.boki_model.specs.Modes.{result_of}
-use Rattle.boki_model.specs.Writes.{Store, Raised, fence}
+use Rattle.boki_model.specs.Writes.{Store, Stored, Raised, fence}
 use Rattle.boki_machine.specs.Attempt.{Attempt}
 use Rattle.boki_machine.specs.Decided.{Point, point}
 use Rattle.exactly_once.specs.Steps.{at_place}
-use Rattle.exactly_once.specs.Invariant.{marks, AreFenced, MayLog, Logs, IsNext, IsStep, IsOfKind, IsAsked, FencedBehind, AllFenced, KnowsLate, Follows, IsFollowing}
+use Rattle.exactly_once.specs.Invariant.{marks, AreFenced, MayLog, Logs, IsNext, IsStep, IsOfKind, IsAsked, IsOwed, FencedBehind, AllFenced, KnowsLate, Follows, IsFollowing}
 use Rattle.exactly_once.proofs.Each.{each_weaker}
 
 module _ (fences fences' : List Raised) (grow : (key : List ℕ) → fence key fences ≤ fence key fences') where
@@ -99,6 +99,17 @@ module _ (fences fences' : List Raised) (grow : (key : List ℕ) → fence key f
 
       pub asked_later : (r : Entry Body) → IsAsked setup fs store fences n now r → IsAsked setup fs store fences' n' now' r
       asked_later r asked = record { own = asked.own; kind = kind_later r.condition r.holds (step_of r.holds) asked.kind }
+
+      pub owed_later : (s : Stored) → IsOwed setup fs store fences n now s → IsOwed setup fs store fences' n' now' s
+      owed_later s owed = record {
+        c = owed.c;
+        within = omega (arith, owed.within, le);
+        key = owed.key;
+        index = owed.index;
+        place = owed.place ∙ ap (λ xs. (point setup fs store s.name.path xs).place) (sym (same owed.c owed.within));
+        asks = subst (λ behind. Logs fs store fences' behind s.name.path (point setup fs store s.name.path behind) owed.index (k.Op (o.Write owed.key s.value))) (sym (same owed.c owed.within))
+            (logs_later (upto owed.c now) s.name.path (point setup fs store s.name.path (upto owed.c now)) owed.index (k.Op (o.Write owed.key s.value)) owed.asks);
+      }
 
       pub following_later : (positions : List ℕ) (a : Attempt) → IsFollowing setup fs store fences n now positions a → IsFollowing setup fs store fences' n' now' positions a
       following_later positions a is = record {

@@ -14,10 +14,10 @@ use Rattle.boki_model.specs.Writes.{Raised, fence, raised}
 use Rattle.boki_model.proofs.Logs.{earlier_stays}
 use Rattle.boki_machine.specs.Attempt.{Attempt, new_attempt}
 use Rattle.exactly_once.specs.Sound.{IsSound}
-use Rattle.exactly_once.specs.Invariant.{World, records, values, AllFenced, IsAsked, IsFollowing, IsAmong, Holds}
+use Rattle.exactly_once.specs.Invariant.{World, records, values, AllFenced, IsAsked, IsOwed, IsFollowing, IsAmong, Holds}
 use Rattle.exactly_once.specs.MicroSteps.{raises, lifts, sends, orders, with_attempts, with_positions, StepsKeep, MicroStepsKeep}
 use Rattle.exactly_once.proofs.Each.{each_weaker}
-use Rattle.exactly_once.proofs.Later.{all_fenced_later, asked_later, following_later}
+use Rattle.exactly_once.proofs.Later.{all_fenced_later, asked_later, owed_later, following_later}
 
 -- Fences rise.
 
@@ -60,6 +60,8 @@ module _ (setup : Setup) (fs : List Function) (w : World) (holds : Holds setup f
         sent = each_weaker (IsAsked setup fs (values w.store) old n (records w)) (IsAsked setup fs (values w.store) new n (records w))
             (asked_later old new grow setup fs (values w.store) n n (omega arith) (records w) (records w) same_upto (λ q r is. is)) w.sent holds.sent;
         ordered = holds.ordered;
+        owed = each_weaker (IsOwed setup fs (values w.store) old n (records w)) (IsOwed setup fs (values w.store) new n (records w))
+            (owed_later old new grow setup fs (values w.store) n n (omega arith) (records w) (records w) same_upto (λ q r is. is)) w.store.named holds.owed;
         attempts = each_weaker (IsFollowing setup fs (values w.store) old n (records w) w.positions) (IsFollowing setup fs (values w.store) new n (records w) w.positions)
             (following_later old new grow setup fs (values w.store) n n (omega arith) (records w) (records w) same_upto (λ q r is. is) w.positions) w.attempts holds.attempts;
         floor_is = holds.floor_is;
@@ -72,6 +74,7 @@ module _ (setup : Setup) (fs : List Function) (w : World) (holds : Holds setup f
     fenced = holds.fenced;
     sent = holds.sent;
     ordered = holds.ordered;
+    owed = holds.owed;
     attempts = holds.attempts;
     floor_is = let h = holds.floor_is in omega (arith, le, h);
     positions = holds.positions;
@@ -83,6 +86,7 @@ module _ (setup : Setup) (fs : List Function) (w : World) (holds : Holds setup f
     fenced = holds.fenced;
     sent = (asked, holds.sent);
     ordered = each_weaker (λ x. IsAmong x w.sent) (λ x. IsAmong x (r ∷ w.sent)) (λ x is. inr is) w.log holds.ordered;
+    owed = holds.owed;
     attempts = holds.attempts;
     floor_is = holds.floor_is;
     positions = holds.positions;
@@ -94,6 +98,7 @@ module _ (setup : Setup) (fs : List Function) (w : World) (holds : Holds setup f
     fenced = holds.fenced;
     sent = holds.sent;
     ordered = holds.ordered;
+    owed = holds.owed;
     attempts = follow;
     floor_is = holds.floor_is;
     positions = holds.positions;
@@ -110,6 +115,7 @@ module _ (setup : Setup) (fs : List Function) (w : World) (holds : Holds setup f
     fenced = holds.fenced;
     sent = holds.sent;
     ordered = holds.ordered;
+    owed = holds.owed;
     attempts = follow;
     floor_is = holds.floor_is;
     positions = within;
@@ -128,6 +134,8 @@ module _ (setup : Setup) (fs : List Function) (w : World) (holds : Holds setup f
         sent = each_weaker (IsAsked setup fs (values w.store) fences n (records w)) (IsAsked setup fs (values w.store) fences (suc n) now)
             (asked_later fences fences (λ key. omega arith) setup fs (values w.store) n (suc n) (omega arith) (records w) now stays results) w.sent holds.sent;
         ordered = (among, holds.ordered);
+        owed = each_weaker (IsOwed setup fs (values w.store) fences n (records w)) (IsOwed setup fs (values w.store) fences (suc n) now)
+            (owed_later fences fences (λ key. omega arith) setup fs (values w.store) n (suc n) (omega arith) (records w) now stays results) w.store.named holds.owed;
         attempts = each_weaker (IsFollowing setup fs (values w.store) fences n (records w) w.positions) (IsFollowing setup fs (values w.store) fences (suc n) now w.positions)
             (following_later fences fences (λ key. omega arith) setup fs (values w.store) n (suc n) (omega arith) (records w) now stays results w.positions) w.attempts holds.attempts;
         floor_is = let h = holds.floor_is in let f = floor_joined (suc n) r (records w) in omega (arith, h, f);

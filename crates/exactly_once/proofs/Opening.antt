@@ -25,6 +25,7 @@ opening_holds setup fs objects = record {
   fenced = tt;
   sent = subst (AllByRecursion (IsAsked setup fs (values (opening setup objects).store) [] 0 [])) (sym (no_records setup.shards)) tt;
   ordered = tt;
+  owed = tt;
   attempts = tt;
   floor_is = omega arith;
   positions = all_zero setup.engines;

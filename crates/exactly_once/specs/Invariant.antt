@@ -25,7 +25,7 @@ use Rattle.boki_model.specs.Bodies.{child, step_of, call_tag}
 use Rattle.boki_model.specs.TagLaws.{first_of}
 use Rattle.boki_model.specs.Modes.{result_of}
 use Rattle.boki_model.specs.Floor.{floor}
-use Rattle.boki_model.specs.Writes.{Store, Raised, fence, value_of, version}
+use Rattle.boki_model.specs.Writes.{Store, Stored, Raised, fence, value_of, version}
 use Rattle.boki_machine.specs.Attempt.{Attempt}
 use Rattle.boki_machine.specs.Decided.{Point, point, more, asked_at}
 use Rattle.exactly_once.specs.Sound.{standing_at, Asks, MayBegin, MayWrite, MayCommit, IsSound}
@@ -130,6 +130,16 @@ AllFenced store fences (x ∷ xs) =
     × ((standing_at x.seq store.versions ≡ []) ⊎ FencedBehind fences (step_of x.holds) (x ∷ xs))
     × AllFenced store fences xs
 
+-- Values under names. Each is owed: behind the records up to c the invocation asked this write at this place, as its operation
+-- of the index, where it isn't free. So a name has one value, whoever stores it.
+pub record IsOwed (setup : Setup) (fs : List Function) (store : Store) (fences : List Raised) (n : ℕ) (now : List (Live Body)) (s : Stored) : Type 0 where
+  pub c : ℕ
+  pub within : c ≤ n
+  pub key : List ℕ
+  pub index : ℕ
+  pub place : s.name.place ≡ (point setup fs store s.name.path (upto c now)).place
+  pub asks : Logs fs store fences (upto c now) s.name.path (point setup fs store s.name.path (upto c now)) index (k.Op (o.Write key s.value))
+
 -- Attempts.
 
 -- an attempt that has adopted no record
@@ -204,6 +214,7 @@ pub record Holds (setup : Setup) (fs : List Function) (w : World) : Type 0 where
   -- what was sent, was asked; and what is ordered, was sent
   pub sent : AllByRecursion (IsAsked setup fs (values w.store) w.store.fences (length w.log) (records w)) w.sent
   pub ordered : AllByRecursion (λ r. IsAmong r w.sent) w.log
+  pub owed : AllByRecursion (IsOwed setup fs (values w.store) w.store.fences (length w.log) (records w)) w.store.named
   pub attempts : AllByRecursion (IsFollowing setup fs (values w.store) w.store.fences (length w.log) (records w) w.positions) w.attempts
   -- each invocation that began below the store's floor has ended
   pub floor_is : w.store.floor ≤ floor (records w)
