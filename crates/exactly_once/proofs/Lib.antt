@@ -26,3 +26,5 @@ pub mod Ordinals
 pub mod Children
 pub mod Orders
 pub mod Opening
+pub mod Names
+pub mod NamesKeep

@@ -36,6 +36,9 @@ child_path (m ∷ ns) n path le one =
     and_from (is_request m && are_ordinals (ns ++ n ∷ [])) (ltb (length (ns ++ n ∷ [])) 4) (and_from (is_request m) (are_ordinals (ns ++ n ∷ [])) fronts.0 (ordinals_push ns n fronts.1 one))
     (lt-ltb (length (ns ++ n ∷ [])) 4 (omega (arith, length_push ns n, le)))
 
+call_tag_below : (p : List ℕ) → IsPath p → call_tag p < 2 * 2 ^ 56
+call_tag_below p path = let h = number_below p path in omega (arith, h)
+
 module _ (path : List ℕ) (ok : IsPath path) where
   above : (t : ℕ) → 3 * 2 ^ 56 ≤ t → eqb (step_tag path) t ≡ false
   above t le = ne_eqb (step_tag path) t (λ e. omega (arith, e, le, number_below path ok))
@@ -73,7 +76,7 @@ module _ (path : List ℕ) (ok : IsPath path) where
 
   own_step : (body : Body) (tags : List Tag) → OwnTags body tags → in_range body ≡ true → has_tag (step_tag path) tags ≡ is_step_of path (step_of body)
   own_step (b.User bytes) tags own range = user_tags tags own
-  own_step (b.Submit p f args) tags own range = ap (has_tag (step_tag path)) own ∙ one_below (call_tag p) (let h = number_below p (and_parts _ _ (and_parts _ _ (and_parts _ _ (and_parts _ _ range).0).0).0).0 in omega (arith, h))
+  own_step (b.Submit p f args) tags own range = ap (has_tag (step_tag path)) own ∙ one_below (call_tag p) (call_tag_below p (and_parts _ _ (and_parts _ _ (and_parts _ _ (and_parts _ _ range).0).0).0).0)
   own_step (b.Init p) tags own range = ap (has_tag (step_tag path)) own ∙ tagged_step p (tag_of 9 0 ∷ []) range (one_above (tag_number 9 0) (omega arith))
   own_step (b.Read p i key) tags own range = ap (has_tag (step_tag path)) own ∙ tagged_step p [] (step_path p i (and_parts _ _ range).0) refl
   own_step (b.Write p i place key value) tags own range = ap (has_tag (step_tag path)) own ∙ tagged_step p (tag_of 5 (name_number key) ∷ []) (step_path p i (and_parts _ _ (and_parts _ _ (and_parts _ _ range).0).0).0) (one_above (key_tag 5 key) (omega arith))
@@ -81,8 +84,7 @@ module _ (path : List ℕ) (ok : IsPath path) where
       let there : IsPath p = step_path p i (and_parts _ _ (and_parts _ _ (and_parts _ _ (and_parts _ _ (and_parts _ _ range).0).0).0).0).0 in
       let few : length p ≤ 3 = leb-true (length p) 3 (and_parts _ _ (and_parts _ _ (and_parts _ _ (and_parts _ _ (and_parts _ _ range).0).0).0).0).1 in
       let one : is_ordinal ordinal ≡ true = (and_parts _ _ (and_parts _ _ (and_parts _ _ (and_parts _ _ range).0).0).0).1 in
-      let h = number_below (child p ordinal) (child_path p ordinal there few one) in
-      ap (has_tag (step_tag path)) own ∙ tagged_step p (tag_of 1 (path_number (child p ordinal)) ∷ []) there (one_below (call_tag (child p ordinal)) (omega (arith, h)))
+      ap (has_tag (step_tag path)) own ∙ tagged_step p (tag_of 1 (path_number (child p ordinal)) ∷ []) there (one_below (call_tag (child p ordinal)) (call_tag_below (child p ordinal) (child_path p ordinal there few one)))
   own_step (b.Join p i ordinal) tags own range = ap (has_tag (step_tag path)) own ∙ tagged_step p [] (step_path p i (and_parts _ _ range).0) refl
   own_step (b.Push p i queue value) tags own range = ap (has_tag (step_tag path)) own ∙ tagged_step p (tag_of 6 (name_number queue) ∷ []) (step_path p i (and_parts _ _ (and_parts _ _ range).0).0) (one_above (key_tag 6 queue) (omega arith))
   own_step (b.Pop p i queue) tags own range = ap (has_tag (step_tag path)) own ∙ tagged_step p (tag_of 6 (name_number queue) ∷ []) (step_path p i (and_parts _ _ range).0) (one_above (key_tag 6 queue) (omega arith))

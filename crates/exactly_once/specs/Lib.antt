@@ -6,4 +6,5 @@ pub mod Invariant
 pub mod MicroSteps
 pub mod Orders
 pub mod Opening
+pub mod Names
 pub mod Steps

@@ -60,3 +60,10 @@ pub fn opening_holds()
 pub fn holding_is_reported()
     ensures { HoldingIsReported }
 {}
+
+ghost use Rattle.exactly_once.specs.Names.{NamesKeep};
+
+/// Storing a value that is owed, under its name, keeps the invariant.
+pub fn names_keep()
+    ensures { NamesKeep }
+{}
