@@ -9,3 +9,4 @@ pub mod Lengths
 pub mod PathLemmas
 pub mod TrimLemmas
 pub mod Adding
+pub mod Ranges

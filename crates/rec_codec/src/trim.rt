@@ -22,7 +22,7 @@ pub fn trim_tag_of(bytes: &[u8]) -> Option<(u64, Seqnum)>
         return None;
     }
     let tag = number(&bytes[2..10]);
-    let upto = number(&bytes[10..]);
+    let upto = number(&bytes[10..18]);
     if tag >= 72_057_594_037_927_936 {
         return None;
     }
