@@ -1,9 +1,9 @@
 use super::*;
-use lb_base::{Path, Tag, Words};
+use lb_base::{Outcome, Path, Tag, Value, Words};
 use std::test::Fail;
 
 /// Bytes that spell no body, and the place at which they cease to.
-const DAMAGED: [(&[u8], usize); 9] = [
+const DAMAGED: [(&[u8], usize); 11] = [
     (&[], 0),
     (&[3, 13], 0),
     (&[2, 13], 1),
@@ -12,7 +12,9 @@ const DAMAGED: [(&[u8], usize); 9] = [
     (&[1, 14, 0], 2),
     (&[2, 17], 2),
     (&[2, 4], 2),
+    (&[1, 2, 0], 2),
     (&[1, 2, 1, 0, 0, 0, 0], 3),
+    (&[1, 2, 1, 0, 0, 0, 1, 0], 7),
 ];
 
 #[test]
@@ -36,6 +38,59 @@ fn a_floor_is_spelled(rt: HostRuntime) -> Result<(), Fail> {
     assert_eq!(rt;
         bytes.as_slice(),
         [1, 14, 0, 0, 0, 0, 0, 0, 0, 4].as_slice()
+    );
+    Ok(())
+}
+
+#[test]
+fn an_end_is_spelled(rt: HostRuntime) -> Result<(), Fail> {
+    let path = Path::request(1).ok_or("1 is a request")?;
+    let outcome = Outcome::Good(Value::Int(5));
+    let bytes = encode(
+        rt.alloc(),
+        &Body::Finish {
+            path,
+            index: 3,
+            outcome,
+        },
+    )?;
+    let spelled = [
+        1, 11, 1, 0, 0, 0, 1, 0, 0, 0, 0, 0, 0, 0, 3, 0, 1, 0, 0, 0, 0, 0, 0, 0, 5,
+    ];
+    assert_eq!(rt; bytes.as_slice(), spelled.as_slice());
+    Ok(())
+}
+
+#[test]
+fn a_short_write_holds_its_value(rt: HostRuntime) -> Result<(), Fail> {
+    let path = Path::request(1).ok_or("1 is a request")?;
+    let key = Words::from_text(rt.alloc(), "x")?;
+    let value = Some(Value::Int(5));
+    let bytes = encode(
+        rt.alloc(),
+        &Body::Write {
+            path,
+            index: 1,
+            place: 1,
+            key,
+            value,
+        },
+    )?;
+    let spelled = [
+        2, 4, 1, 0, 0, 0, 1, 0, 0, 0, 0, 0, 0, 0, 1, 0, 0, 0, 0, 0, 0, 0, 1, 0, 1, 120, 1, 0, 0, 0,
+        0, 0, 0, 0, 5,
+    ];
+    assert_eq!(rt; bytes.as_slice(), spelled.as_slice());
+    Ok(())
+}
+
+#[test]
+fn a_step_has_its_tag(rt: HostRuntime) -> Result<(), Fail> {
+    let path = Path::request(1).ok_or("1 is a request")?;
+    let tags = tags_of(rt.alloc(), &Body::Init { path })?;
+    assert_eq!(rt;
+        tags.as_slice(),
+        [Tag(0x0200_0010_0000_0000), Tag(0x0900_0000_0000_0000)].as_slice()
     );
     Ok(())
 }

@@ -10,11 +10,11 @@ use Rattle.rec_codec.proofs.trim.trim_tag_of.Goals.{then-bytes-ne18-via-then-byt
 pub returns-then-bytes-ne18 : goal.returns-then-bytes-ne18
 returns-then-bytes-ne18 c =
     trim_none c.args.bytes.now (λ i. omega (arith, c.type_inv.bytes i)) (λ t.
-      elim c.then-bytes-ne18.branch [
-        | then-bytes-ne18-via-then-bytes-ne18 w ↦ omega (arith, t.len)
-        | then-bytes-ne18-via-else-bytes-ne18+then-bytes-ne1 w ↦ omega (arith, t.format)
-        | then-bytes-ne18-via-else-bytes-ne18+else-bytes-ne1+then-bytes-ne15 w ↦ omega (arith, t.kind)
-      ])
+    elim c.then-bytes-ne18.branch [
+      | then-bytes-ne18-via-then-bytes-ne18 w ↦ omega (arith, t.len)
+      | then-bytes-ne18-via-else-bytes-ne18+then-bytes-ne1 w ↦ omega (arith, t.format)
+      | then-bytes-ne18-via-else-bytes-ne18+else-bytes-ne1+then-bytes-ne15 w ↦ omega (arith, t.kind)
+    ])
 
 -- the answer, by the test of the tag
 told : (bytes : List ℕ) (t : Bool) (n u : ℕ) → IsTrim bytes → ltb (number_in bytes) (2 ^ 56) ≡ t → n ≡ number_in bytes → u ≡ upto_in bytes → cond t (trimmed n u) None ≡ trim_in (read bytes)
