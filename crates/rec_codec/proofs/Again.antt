@@ -10,7 +10,7 @@ use Rattle.lb_base.specs.Path.{is_path, is_ordinal}
 use Rattle.boki_types.specs.declared.body.Body.{Body}
 use Rattle.boki_types.specs.declared.body.Body.TheVariants as b
 use Rattle.boki_model.specs.Bodies.{is_word, is_value, is_name, is_identifier, is_outcome, few, some_names, is_step, in_range}
-use Rattle.rec_codec.specs.Spelling.{path, text, value, values, names, write, writes, spelled, is_text_value, is_text_outcome, is_text_write, has_texts}
+use Rattle.rec_codec.specs.Spelling.{path, text, value, values, names, write, writes, spelled, is_text_value, is_text_outcome, is_text_write, has_texts, is_short}
 use Rattle.rec_codec.specs.Reading.{Reader, ◌>>=◌, is_key, is_function, path_at, text_at, value_at, write_at, list_at, submit_at, init_at, read_at, named_write_at, inline_write_at, spawned_at, join_at, push_at, pop_at, begin_at, commit_at, finish_at, switch_at, trim_at, trim_tag_at, user_at, group_at, plain_at, later_at, body_at, whole, read}
 use Rattle.rec_codec.proofs.Fields.{IsBytes, IsBytes-rest, IsBytes-drop, IsBytes-take, all_bytes, done, text_reads, bind_ok, ok_is, Takes, Takes-behind, Reads, list_reads, passes_list, counted_list}
 use Rattle.rec_codec.proofs.ElementsLemmas.{chosen, word_reads, is_index, index_reads, ordinal_reads, tag_reads, key_reads, function_reads, path_of, path_reads, value_ok, value_reads, target_reads, outcome_reads, write_ok, write_reads}
@@ -60,11 +60,6 @@ step_index p i h =
 
 one_path : (p : List ℕ) → (is_path p && eqb (length p) 1) ≡ true → path_of 1 p ≡ true
 one_path p h = both (first _ _ h) (le-leb (length p) 1 (let last : eqb (length p) 1 ≡ true = second _ _ h in let e : length p ≡ 1 = eqb-true (length p) 1 last in omega arith))
-
--- what isn't a user's bytes is never too long to be read, and a user's bytes are at most 4,092
-abbrev pub is_short : Body → Bool
-is_short (b.User bytes) = is_piece bytes
-is_short _ = true
 
 pub body_again : (body : Body) (rest : List ℕ) → in_range body ≡ true → has_texts body ≡ true → is_short body ≡ true → body_at (spelled body ++ rest) ≡ Ok (body, rest)
 unfolding body_at plain_at later_at submit_at init_at read_at named_write_at inline_write_at spawned_at join_at push_at pop_at begin_at commit_at finish_at switch_at trim_at trim_tag_at user_at group_at

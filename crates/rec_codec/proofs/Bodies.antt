@@ -78,9 +78,10 @@ split_writes (w ∷ ws) h =
     let here = and_parts (is_key w.0) (value_ok w.1) parts.0 in
     let key = and_parts (is_utf8 w.0) (is_name w.0) here.0 in
     let val = and_parts (is_value w.1) (is_text_value w.1) here.1 in
-    let rest = split_writes ws parts.1 in
-    (and_from (plain_write w) (list_all plain_write ws) (and_from (is_name w.0) (is_value w.1) key.1 val.0) rest.0,
-     and_from (is_text_write w) (list_all is_text_write ws) (and_from (is_utf8 w.0) (is_text_value w.1) key.0 val.1) rest.1)
+    let rest = split_writes ws parts.1 in (
+      and_from (plain_write w) (list_all plain_write ws) (and_from (is_name w.0) (is_value w.1) key.1 val.0) rest.0,
+      and_from (is_text_write w) (list_all is_text_write ws) (and_from (is_utf8 w.0) (is_text_value w.1) key.0 val.1) rest.1,
+    )
 
 pub writes_in : (ws : List (List ℕ × Value)) → passes_list 0 write_ok ws ≡ true → (few ws ≡ true) × (list_all plain_write ws ≡ true) × (list_all is_text_write ws ≡ true)
 writes_in ws h =
@@ -249,23 +250,71 @@ plain_takes [] body rest fits e = absurd cc
 plain_takes (k ∷ bytes) body rest fits e =
     let fit = IsBytes-rest k bytes fits in
     let is : (n : ℕ) → eqb k n ≡ true → Sound (1 ∷ n ∷ bytes) body rest → Sound (1 ∷ k ∷ bytes) body rest = λ n same sound. subst (λ (m : ℕ). Sound (1 ∷ m ∷ bytes) body rest) (sym (eqb-true k n same)) sound in
-    elim (chosen (eqb k 1) (submit_at bytes) _ (Ok (body, rest)) e) [ inl h ↦ is 1 h.0 (submit_takes bytes body rest fit h.1) | inr h1 ↦
-    elim (chosen (eqb k 2) (init_at bytes) _ (Ok (body, rest)) h1.1) [ inl h ↦ is 2 h.0 (init_takes bytes body rest fit h.1) | inr h2 ↦
-    elim (chosen (eqb k 3) (read_at bytes) _ (Ok (body, rest)) h2.1) [ inl h ↦ is 3 h.0 (read_takes bytes body rest fit h.1) | inr h3 ↦
-    elim (chosen (eqb k 4) (named_write_at bytes) _ (Ok (body, rest)) h3.1) [ inl h ↦ is 4 h.0 (named_write_takes bytes body rest fit h.1) | inr h4 ↦
-    elim (chosen (eqb k 5) (spawned_at bytes) _ (Ok (body, rest)) h4.1) [ inl h ↦ is 5 h.0 (spawn_takes bytes body rest fit h.1) | inr h5 ↦
-    elim (chosen (eqb k 6) (join_at bytes) _ (Ok (body, rest)) h5.1) [ inl h ↦ is 6 h.0 (join_takes bytes body rest fit h.1) | inr h6 ↦
-    elim (chosen (eqb k 7) (push_at bytes) _ (Ok (body, rest)) h6.1) [ inl h ↦ is 7 h.0 (push_takes bytes body rest fit h.1) | inr h7 ↦
-    elim (chosen (eqb k 8) (pop_at bytes) _ (Ok (body, rest)) h7.1) [ inl h ↦ is 8 h.0 (pop_takes bytes body rest fit h.1) | inr h8 ↦
-    elim (chosen (eqb k 9) (begin_at bytes) _ (Ok (body, rest)) h8.1) [ inl h ↦ is 9 h.0 (begin_takes bytes body rest fit h.1) | inr h9 ↦
-    elim (chosen (eqb k 10) (commit_at bytes) _ (Ok (body, rest)) h9.1) [ inl h ↦ is 10 h.0 (commit_takes bytes body rest fit h.1) | inr h10 ↦
-    elim (chosen (eqb k 11) (finish_at bytes) _ (Ok (body, rest)) h10.1) [ inl h ↦ is 11 h.0 (finish_takes bytes body rest fit h.1) | inr h11 ↦
-    elim (chosen (eqb k 12) (switch_at bytes) _ (Ok (body, rest)) h11.1) [ inl h ↦ is 12 h.0 (switch_takes bytes body rest fit h.1) | inr h12 ↦
-    elim (chosen (eqb k 13) (Ok (b.SwitchEnd, bytes)) _ (Ok (body, rest)) h12.1) [ inl h ↦ is 13 h.0 (switch_end_takes bytes body rest fit h.1) | inr h13 ↦
-    elim (chosen (eqb k 14) (trim_at bytes) _ (Ok (body, rest)) h13.1) [ inl h ↦ is 14 h.0 (trim_takes bytes body rest fit h.1) | inr h14 ↦
-    elim (chosen (eqb k 15) (trim_tag_at bytes) _ (Ok (body, rest)) h14.1) [ inl h ↦ is 15 h.0 (trim_tag_takes bytes body rest fit h.1) | inr h15 ↦
-    elim (chosen (eqb k 16) (user_at bytes) _ (Ok (body, rest)) h15.1) [ inl h ↦ is 16 h.0 (user_takes bytes body rest fit h.1) | inr h16 ↦
-    absurd cc ] ] ] ] ] ] ] ] ] ] ] ] ] ] ] ]
+    elim (chosen (eqb k 1) (submit_at bytes) _ (Ok (body, rest)) e) [
+      | inl h ↦ is 1 h.0 (submit_takes bytes body rest fit h.1)
+      | inr h1 ↦
+          elim (chosen (eqb k 2) (init_at bytes) _ (Ok (body, rest)) h1.1) [
+            | inl h ↦ is 2 h.0 (init_takes bytes body rest fit h.1)
+            | inr h2 ↦
+                elim (chosen (eqb k 3) (read_at bytes) _ (Ok (body, rest)) h2.1) [
+                  | inl h ↦ is 3 h.0 (read_takes bytes body rest fit h.1)
+                  | inr h3 ↦
+                      elim (chosen (eqb k 4) (named_write_at bytes) _ (Ok (body, rest)) h3.1) [
+                        | inl h ↦ is 4 h.0 (named_write_takes bytes body rest fit h.1)
+                        | inr h4 ↦
+                            elim (chosen (eqb k 5) (spawned_at bytes) _ (Ok (body, rest)) h4.1) [
+                              | inl h ↦ is 5 h.0 (spawn_takes bytes body rest fit h.1)
+                              | inr h5 ↦
+                                  elim (chosen (eqb k 6) (join_at bytes) _ (Ok (body, rest)) h5.1) [
+                                    | inl h ↦ is 6 h.0 (join_takes bytes body rest fit h.1)
+                                    | inr h6 ↦
+                                        elim (chosen (eqb k 7) (push_at bytes) _ (Ok (body, rest)) h6.1) [
+                                          | inl h ↦ is 7 h.0 (push_takes bytes body rest fit h.1)
+                                          | inr h7 ↦
+                                              elim (chosen (eqb k 8) (pop_at bytes) _ (Ok (body, rest)) h7.1) [
+                                                | inl h ↦ is 8 h.0 (pop_takes bytes body rest fit h.1)
+                                                | inr h8 ↦
+                                                    elim (chosen (eqb k 9) (begin_at bytes) _ (Ok (body, rest)) h8.1) [
+                                                      | inl h ↦ is 9 h.0 (begin_takes bytes body rest fit h.1)
+                                                      | inr h9 ↦
+                                                          elim (chosen (eqb k 10) (commit_at bytes) _ (Ok (body, rest)) h9.1) [
+                                                            | inl h ↦ is 10 h.0 (commit_takes bytes body rest fit h.1)
+                                                            | inr h10 ↦
+                                                                elim (chosen (eqb k 11) (finish_at bytes) _ (Ok (body, rest)) h10.1) [
+                                                                  | inl h ↦ is 11 h.0 (finish_takes bytes body rest fit h.1)
+                                                                  | inr h11 ↦
+                                                                      elim (chosen (eqb k 12) (switch_at bytes) _ (Ok (body, rest)) h11.1) [
+                                                                        | inl h ↦ is 12 h.0 (switch_takes bytes body rest fit h.1)
+                                                                        | inr h12 ↦
+                                                                            elim (chosen (eqb k 13) (Ok (b.SwitchEnd, bytes)) _ (Ok (body, rest)) h12.1) [
+                                                                              | inl h ↦ is 13 h.0 (switch_end_takes bytes body rest fit h.1)
+                                                                              | inr h13 ↦
+                                                                                  elim (chosen (eqb k 14) (trim_at bytes) _ (Ok (body, rest)) h13.1) [
+                                                                                    | inl h ↦ is 14 h.0 (trim_takes bytes body rest fit h.1)
+                                                                                    | inr h14 ↦
+                                                                                        elim (chosen (eqb k 15) (trim_tag_at bytes) _ (Ok (body, rest)) h14.1) [
+                                                                                          | inl h ↦ is 15 h.0 (trim_tag_takes bytes body rest fit h.1)
+                                                                                          | inr h15 ↦
+                                                                                              elim (chosen (eqb k 16) (user_at bytes) _ (Ok (body, rest)) h15.1) [
+                                                                                                | inl h ↦ is 16 h.0 (user_takes bytes body rest fit h.1)
+                                                                                                | inr h16 ↦
+                                                                                                    absurd cc
+                                                                                              ]
+                                                                                        ]
+                                                                                  ]
+                                                                            ]
+                                                                      ]
+                                                                ]
+                                                          ]
+                                                    ]
+                                              ]
+                                        ]
+                                  ]
+                            ]
+                      ]
+                ]
+          ]
+    ]
 
 later_takes : (bytes : List ℕ) (body : Body) (rest : List ℕ) → IsBytes bytes → later_at bytes ≡ Ok (body, rest) → Sound (2 ∷ bytes) body rest
 unfolding later_at
@@ -273,8 +322,11 @@ later_takes [] body rest fits e = absurd cc
 later_takes (k ∷ bytes) body rest fits e =
     let fit = IsBytes-rest k bytes fits in
     let is : (n : ℕ) → eqb k n ≡ true → Sound (2 ∷ n ∷ bytes) body rest → Sound (2 ∷ k ∷ bytes) body rest = λ n same sound. subst (λ (m : ℕ). Sound (2 ∷ m ∷ bytes) body rest) (sym (eqb-true k n same)) sound in
-    elim (chosen (eqb k 4) (inline_write_at bytes) _ (Ok (body, rest)) e) [ inl h ↦ is 4 h.0 (inline_write_takes bytes body rest fit h.1) | inr h4 ↦
-    elim (chosen (eqb k 17) (group_at bytes) _ (Ok (body, rest)) h4.1) [ inl h ↦ is 17 h.0 (group_takes bytes body rest fit h.1) | inr h17 ↦ absurd cc ] ]
+    elim (chosen (eqb k 4) (inline_write_at bytes) _ (Ok (body, rest)) e) [
+      | inl h ↦ is 4 h.0 (inline_write_takes bytes body rest fit h.1)
+      | inr h4 ↦
+          elim (chosen (eqb k 17) (group_at bytes) _ (Ok (body, rest)) h4.1) [ inl h ↦ is 17 h.0 (group_takes bytes body rest fit h.1) | inr h17 ↦ absurd cc ]
+    ]
 
 -- what is read is sound
 pub body_takes : (bytes : List ℕ) (body : Body) (rest : List ℕ) → IsBytes bytes → body_at bytes ≡ Ok (body, rest) → Sound bytes body rest
@@ -283,8 +335,11 @@ body_takes [] body rest fits e = absurd cc
 body_takes (f ∷ bytes) body rest fits e =
     let fit = IsBytes-rest f bytes fits in
     let is : (n : ℕ) → eqb f n ≡ true → Sound (n ∷ bytes) body rest → Sound (f ∷ bytes) body rest = λ n same sound. subst (λ (m : ℕ). Sound (m ∷ bytes) body rest) (sym (eqb-true f n same)) sound in
-    elim (chosen (eqb f 1) (plain_at bytes) _ (Ok (body, rest)) e) [ inl h ↦ is 1 h.0 (plain_takes bytes body rest fit h.1) | inr h1 ↦
-    elim (chosen (eqb f 2) (later_at bytes) _ (Ok (body, rest)) h1.1) [ inl h ↦ is 2 h.0 (later_takes bytes body rest fit h.1) | inr h2 ↦ absurd cc ] ]
+    elim (chosen (eqb f 1) (plain_at bytes) _ (Ok (body, rest)) e) [
+      | inl h ↦ is 1 h.0 (plain_takes bytes body rest fit h.1)
+      | inr h1 ↦
+          elim (chosen (eqb f 2) (later_at bytes) _ (Ok (body, rest)) h1.1) [ inl h ↦ is 2 h.0 (later_takes bytes body rest fit h.1) | inr h2 ↦ absurd cc ]
+    ]
 
 -- the whole is one body
 whole_ok : (total : ℕ) (r : Result (Body × List ℕ) ℕ) (body : Body) → whole total r ≡ Ok body → r ≡ Ok (body, [])

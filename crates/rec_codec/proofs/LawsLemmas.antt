@@ -7,11 +7,11 @@ use Rattle.std.proofs.lemmas.List.{length-append, append-nil}
 use Rattle.boki_types.specs.declared.body.Body.{Body}
 use Rattle.boki_types.specs.declared.body.Body.TheVariants as b
 use Rattle.boki_model.specs.Bodies.{in_range}
-use Rattle.rec_codec.specs.Spelling.{spelled, has_texts, text}
+use Rattle.rec_codec.specs.Spelling.{spelled, has_texts, is_short, text}
 use Rattle.rec_codec.specs.Reading.{body_at, whole, read}
 use Rattle.rec_codec.proofs.Fields.{IsBytes, ok_is}
 use Rattle.rec_codec.proofs.Bodies.{Sound, body_takes, read_takes_all}
-use Rattle.rec_codec.proofs.Again.{is_short, read_again}
+use Rattle.rec_codec.proofs.Again.{read_again}
 
 -- each byte, by its place
 by_place : (bytes : List ℕ) → list_all (λ c. ltb c 256) bytes ≡ true → IsBytes bytes

@@ -5,3 +5,8 @@ pub mod Arities
 pub mod Bodies
 pub mod Again
 pub mod LawsLemmas
+pub mod Lengths
+pub mod PathLemmas
+pub mod TrimLemmas
+pub mod Adding
+pub mod Ranges

@@ -1,6 +1,6 @@
 -- The spelling of a record: what bytes stand in the log for a body. There is one spelling for each body.
 -- The first byte is the format, 1 or 2, and the second the kind. Then the body's fields follow in their order.
-use Rattle.std.specs.Prelude.{ℕ, ℤ, Bool, true, ◌&&◌, List, [], ◌∷◌, ◌++◌, length, Option, Some, None}
+use Rattle.std.specs.Prelude.{ℕ, ℤ, Bool, true, ◌&&◌, nat_le, List, [], ◌∷◌, ◌++◌, length, Option, Some, None}
 use Rattle.std.specs.List.{flat_map, list_all}
 use Rattle.std.specs.Int.{w16, w32, w64, to_be_bytes, cast_unsigned}
 use Rattle.std.specs.Str.{is_utf8}
@@ -126,3 +126,8 @@ has_texts (b.Trim w) = true
 has_texts (b.TrimTag number upto) = true
 has_texts (b.User bytes) = true
 has_texts (b.ReadGroup p i keys) = list_all is_utf8 keys
+
+-- A body whose spelling has at most 4,096 bytes: of a user's bytes, at most 4,092; every other body in range.
+abbrev pub is_short : Body → Bool
+is_short (b.User bytes) = nat_le (length bytes) 4092
+is_short _ = true

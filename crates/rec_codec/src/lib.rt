@@ -3,17 +3,25 @@
 
 mod decoding;
 mod elements;
+mod encoding;
 mod fault;
 mod kinds;
 mod laws;
 mod lists;
 mod names;
 mod pieces;
+mod spellings;
 mod tags;
+mod trim;
 mod values;
 
 pub use boki_types::Body;
 pub use decoding::decode;
+pub use encoding::encode;
 pub use fault::{DecodeFault, EncodeFault};
 pub use laws::{one_spelling, read_is_spelled, spelled_is_read};
-pub use tags::key_tag;
+pub use tags::{key_tag, tags_of};
+pub use trim::trim_tag_of;
+
+#[cfg(test)]
+mod tests;
