@@ -3,13 +3,11 @@ use Rattle.std.proofs.Common.{◌≡◌, ℕ, zero, suc, ◌≤◌, [], length, 
 use Rattle.std.specs.Prelude.{replicate}
 use Rattle.std.specs.List.{AllByRecursion}
 use Rattle.boki_machine.specs.Machine.{opening, log, live_log}
-use Rattle.boki_machine.specs.Turns.{turns}
 use Rattle.exactly_once.specs.Runs.{Runs}
 use Rattle.exactly_once.specs.Invariant.{values, IsAsked}
 use Rattle.exactly_once.specs.Opening.{all_of, OpeningHolds, HoldingIsReported}
 use Rattle.exactly_once.proofs.Simulates.{sound_runs}
-use Rattle.exactly_once.proofs.Ordered.{IsOrdered, is_ordered}
-use Rattle.exactly_once.proofs.Reported.{objects_same, results_same}
+use Rattle.exactly_once.proofs.Reported.{reported_from}
 
 no_records : {A : Type 0} (n : ℕ) → all_of {A = A} (replicate n []) ≡ []
 no_records zero = refl
@@ -34,11 +32,4 @@ opening_holds setup fs objects = record {
 pub holding_is_reported : HoldingIsReported
 holding_is_reported setup fs m holds =
     let runs : Runs fs (values m.store) (suc (length (log m))) (live_log m) = sound_runs setup fs (values m.store) (log m) holds.sound in
-    let ordered : IsOrdered runs.state = is_ordered fs (turns fs m.store.versions (live_log m)) m.store.initial runs.state runs.defined in
-    let by_results = results_same (live_log m) runs.state ordered.invocations runs.results in
-    let by_objects = objects_same (suc (length (log m))) m.store (live_log m) runs.state.objects ordered.objects runs.objects in
-    record {
-      state = runs.state;
-      defined = runs.defined;
-      reported = λ i. record { turns = turns fs m.store.versions (live_log m); results = by_results i; objects = by_objects i; queues = runs.queues_are i; stores = runs.names i };
-    }
+    reported_from fs m runs.state runs.defined runs.objects runs.results runs.queues_are runs.names

@@ -18,12 +18,14 @@ use Rattle.boki_model.specs.MapLaws.{InOrder}
 use Rattle.boki_model.specs.Modes as modes
 use Rattle.boki_model.specs.Writes.{Store, Stored, Version, Write, write_at, here_or_named, if_key, logged_write, and_key, initial_keys, logged_key, logged_keys_below, version_keys_below, keys_below, is_below, last_below, writes_of, last}
 use Rattle.boki_model.proofs.KeyMaps.{put_in_order, same_answers}
-use Rattle.boki_machine.specs.Ideal.{Invocation, Ideal, result_of}
+use Rattle.boki_types.specs.declared.program.Function.{Function}
+use Rattle.boki_model.specs.Folds.{queues, commits, stored}
+use Rattle.boki_machine.specs.Ideal.{Invocation, Ideal, ideal, opening, result_of}
 use Rattle.boki_machine.specs.Reports.{objects, results, and_result, result_if_new, pair_with, last_values, and_outcome, ideal_results}
-use Rattle.boki_machine.specs.Machine.{log, live_log}
+use Rattle.boki_machine.specs.Machine.{Machine, log, live_log}
 use Rattle.boki_machine.specs.Turns.{turns}
 use Rattle.exactly_once.specs.Runs.{Runs}
-use Rattle.exactly_once.specs.Reported.{ReportsAgree}
+use Rattle.exactly_once.specs.Reported.{IsReported, ReportsAgree}
 use Rattle.exactly_once.proofs.Simulates.{sound_runs}
 use Rattle.exactly_once.proofs.Ordered.{IsOrdered, is_ordered}
 use Rattle.exactly_once.proofs.Maps.{same_itself, keys_cases, get-put, get_first}
@@ -261,14 +263,22 @@ results_same xs s is are =
     ∙ same_answers (picked (λ (x : List ℕ × Invocation). x.1.result) s.invocations) (results xs) (picked_in_order (λ (x : List ℕ × Invocation). x.1.result) s.invocations is) (results_in_order xs)
     (λ q. get_picked (λ (x : List ℕ × Invocation). x.1.result) q s.invocations is ∙ are q ∙ sym (results_by_key xs q))
 
+-- a failure-free state that has what the log and the store say has the report of the machine
+pub reported_from :
+    (fs : List Function) (m : Machine) (state : Ideal) → ideal fs (turns fs m.store.versions (live_log m)) (opening m.store.initial) ≡ Some state
+    → ((key : List ℕ) → get key state.objects ≡ last key (suc (length (log m))) 0 m.store (live_log m)) → ((path : List ℕ) → result_of path state ≡ modes.result_of path (live_log m))
+    → state.queues ≡ queues (live_log m) → state.names ≡ stored (commits (live_log m)) → IsReported fs m
+reported_from fs m state defined by_key by_path by_queues by_names =
+    let ordered : IsOrdered state = is_ordered fs (turns fs m.store.versions (live_log m)) m.store.initial state defined in
+    let by_results = results_same (live_log m) state ordered.invocations by_path in
+    let by_objects = objects_same (suc (length (log m))) m.store (live_log m) state.objects ordered.objects by_key in
+    record {
+      state = state;
+      defined = defined;
+      reported = λ i. record { turns = turns fs m.store.versions (live_log m); results = by_results i; objects = by_objects i; queues = by_queues i; stores = by_names i };
+    }
+
 pub reports_agree : ReportsAgree
 reports_agree setup fs m sound =
     let runs : Runs fs m.store (suc (length (log m))) (live_log m) = sound_runs setup fs m.store (log m) sound in
-    let ordered : IsOrdered runs.state = is_ordered fs (turns fs m.store.versions (live_log m)) m.store.initial runs.state runs.defined in
-    let by_results = results_same (live_log m) runs.state ordered.invocations runs.results in
-    let by_objects = objects_same (suc (length (log m))) m.store (live_log m) runs.state.objects ordered.objects runs.objects in
-    record {
-      state = runs.state;
-      defined = runs.defined;
-      reported = λ i. record { turns = turns fs m.store.versions (live_log m); results = by_results i; objects = by_objects i; queues = runs.queues_are i; stores = runs.names i };
-    }
+    reported_from fs m runs.state runs.defined runs.objects runs.results runs.queues_are runs.names
