@@ -28,3 +28,4 @@ pub mod Orders
 pub mod Opening
 pub mod Names
 pub mod NamesKeep
+pub mod Events

@@ -7,4 +7,5 @@ pub mod MicroSteps
 pub mod Orders
 pub mod Opening
 pub mod Names
+pub mod Events
 pub mod Steps

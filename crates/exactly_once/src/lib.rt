@@ -67,3 +67,10 @@ ghost use Rattle.exactly_once.specs.Names.{NamesKeep};
 pub fn names_keep()
     ensures { NamesKeep }
 {}
+
+ghost use Rattle.exactly_once.specs.Events.{QuietEventsKeep};
+
+/// Events that send and order nothing keep the invariant.
+pub fn quiet_events_keep()
+    ensures { QuietEventsKeep }
+{}
