@@ -42,7 +42,7 @@ found_each P n a (x ∷ xs) found all = at (λ found. found_each P n a xs found 
 -- What an attempt follows does not depend on its life, nor on whether it waits.
 module _ (setup : Setup) (fs : List Function) (store : Store) (fences : List Raised) where
   fresh_as : (a : Attempt) (life : Life) (waiting : Bool) → IsFresh a → IsFresh (record a { life = life; waiting = waiting })
-  fresh_as a life waiting f = record { place = f.place; cursor = f.cursor; answers = f.answers; k = f.k; stored = f.stored; late = f.late }
+  fresh_as a life waiting f = record { place = f.place; cursor = f.cursor; answers = f.answers; k = f.k; stored = f.stored; late = f.late; transaction = f.transaction }
 
   follows_as : (behind : List (Live Body)) (a : Attempt) (life : Life) (waiting : Bool) → Follows setup fs store fences behind a → Follows setup fs store fences behind (record a { life = life; waiting = waiting })
   follows_as behind a life waiting f = record {

@@ -107,7 +107,7 @@ module _ (setup : Setup) (fs : List Function) (w : World) (holds : Holds setup f
   start_keeps : (path : List ℕ) (engine : ℕ) → Holds setup fs (with_attempts (new_attempt path engine ∷ w.attempts) w)
   start_keeps path engine =
       move_keeps (new_attempt path engine ∷ w.attempts)
-      (record { within = omega arith; seen = omega arith; follows = inl (record { place = refl; cursor = refl; answers = refl; k = refl; stored = refl; late = refl }) }, holds.attempts)
+      (record { within = omega arith; seen = omega arith; follows = inl (record { place = refl; cursor = refl; answers = refl; k = refl; stored = refl; late = refl; transaction = refl }) }, holds.attempts)
 
   catch_keeps : (positions : List ℕ) → AllByRecursion (λ p. p ≤ length w.log) positions → AllByRecursion (IsFollowing setup fs (values w.store) w.store.fences (length w.log) (records w) positions) w.attempts → Holds setup fs (with_positions positions w)
   catch_keeps positions within follow = record {

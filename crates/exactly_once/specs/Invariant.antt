@@ -150,6 +150,7 @@ pub record IsFresh (a : Attempt) : Type 0 where
   pub k : a.k ≡ 0
   pub stored : a.stored ≡ false
   pub late : a.late ≡ false
+  pub transaction : a.begun ≡ None
 
 -- what it knows of its next write: that its value is stored, or that it is late
 abbrev pub KnowsStored : List Function → Store → List ℕ → Point → List Answer → Bool → Type 0
