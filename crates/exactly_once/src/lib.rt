@@ -2,7 +2,15 @@
 //! laws, functions with an empty body of which each has its law as its contract; the definitions are in `specs/`.
 #![tactic(auto)]
 
+ghost use Rattle.exactly_once.specs.Events.{QuietEventsKeep};
 ghost use Rattle.exactly_once.specs.Exclusion.{ModesExclude, FloorsPass};
+ghost use Rattle.exactly_once.specs.MicroSteps.{MicroStepsKeep};
+ghost use Rattle.exactly_once.specs.Names.{NamesKeep};
+ghost use Rattle.exactly_once.specs.Opening.{OpeningHolds, HoldingIsReported};
+ghost use Rattle.exactly_once.specs.Orders.{OrdersKeep};
+ghost use Rattle.exactly_once.specs.Reported.{ReportsAgree};
+ghost use Rattle.exactly_once.specs.Runs.{SoundRuns};
+ghost use Rattle.exactly_once.specs.Steps.{StepsInOrder};
 
 /// Of two invocations, one of mode R and one of mode W, the one whose Init comes first has ended before the other begins.
 pub fn modes_exclude()
@@ -14,42 +22,30 @@ pub fn floors_pass()
     ensures { FloorsPass }
 {}
 
-ghost use Rattle.exactly_once.specs.Runs.{SoundRuns};
-
 /// The failure-free execution of a sound log's turns is defined, and comes to what the log and the store say.
 pub fn sound_runs()
     ensures { SoundRuns }
 {}
-
-ghost use Rattle.exactly_once.specs.Steps.{StepsInOrder};
 
 /// The live step records of an invocation have the places 0, 1, .. in ascending seqnums.
 pub fn steps_in_order()
     ensures { StepsInOrder }
 {}
 
-ghost use Rattle.exactly_once.specs.Reported.{ReportsAgree};
-
 /// The report of a machine with a sound log is that of the failure-free execution of its turns.
 pub fn reports_agree()
     ensures { ReportsAgree }
 {}
-
-ghost use Rattle.exactly_once.specs.MicroSteps.{MicroStepsKeep};
 
 /// The small changes that events are made of keep the invariant.
 pub fn micro_steps_keep()
     ensures { MicroStepsKeep }
 {}
 
-ghost use Rattle.exactly_once.specs.Orders.{OrdersKeep};
-
 /// Ordering a record that was sent keeps the invariant.
 pub fn orders_keep()
     ensures { OrdersKeep }
 {}
-
-ghost use Rattle.exactly_once.specs.Opening.{OpeningHolds, HoldingIsReported};
 
 /// The invariant holds at the opening.
 pub fn opening_holds()
@@ -61,14 +57,10 @@ pub fn holding_is_reported()
     ensures { HoldingIsReported }
 {}
 
-ghost use Rattle.exactly_once.specs.Names.{NamesKeep};
-
 /// Storing a value that is owed, under its name, keeps the invariant.
 pub fn names_keep()
     ensures { NamesKeep }
 {}
-
-ghost use Rattle.exactly_once.specs.Events.{QuietEventsKeep};
 
 /// Events that send and order nothing keep the invariant.
 pub fn quiet_events_keep()
