@@ -1,5 +1,9 @@
+ghost use Rattle.std.specs.Prelude.{◌≡◌, nat_lt};
+ghost use Rattle.std.specs.List.{list_all};
+
 use super::*;
-use lb_base::{Outcome, Path, Tag, Value, Words};
+use lb_base::{List, Outcome, Path, Tag, Value, Words};
+use std::alloc::Global;
 use std::test::Fail;
 
 /// Bytes that spell no body, and the place at which they cease to.
@@ -16,6 +20,79 @@ const DAMAGED: [(&[u8], usize); 11] = [
     (&[1, 2, 1, 0, 0, 0, 0], 3),
     (&[1, 2, 1, 0, 0, 0, 1, 0], 7),
 ];
+
+/// A body of each kind, of both formats, by its bytes.
+const SPELLED: [&[u8]; 18] = [
+    &[1, 1, 1, 0, 0, 0, 1, 0, 1, 102, 1, 0],
+    &[
+        1, 2, 4, 0, 15, 255, 255, 0, 0, 0, 1, 0, 0, 0, 2, 0, 0, 15, 255,
+    ],
+    &[1, 3, 1, 0, 0, 0, 1, 0, 0, 0, 0, 0, 0, 0, 1, 0, 1, 120],
+    &[
+        1, 4, 1, 0, 0, 0, 1, 0, 0, 0, 0, 0, 0, 0, 1, 0, 0, 0, 0, 0, 0, 0, 1, 0, 1, 120,
+    ],
+    &[
+        1, 5, 1, 0, 0, 0, 1, 0, 0, 0, 0, 0, 0, 0, 1, 0, 0, 0, 0, 0, 0, 15, 255, 0, 1, 103, 2, 2, 0,
+        1, 97, 0,
+    ],
+    &[
+        1, 6, 1, 0, 0, 0, 1, 0, 0, 0, 0, 0, 0, 0, 2, 0, 0, 0, 0, 0, 0, 0, 1,
+    ],
+    &[
+        1, 7, 1, 0, 0, 0, 1, 0, 0, 0, 0, 0, 0, 0, 1, 0, 1, 113, 1, 255, 255, 255, 255, 255, 255,
+        255, 255,
+    ],
+    &[1, 8, 1, 0, 0, 0, 1, 0, 0, 0, 0, 0, 0, 0, 1, 0, 1, 113],
+    &[
+        1, 9, 1, 0, 0, 0, 1, 0, 0, 0, 0, 0, 0, 0, 1, 2, 0, 1, 110, 0, 1, 109,
+    ],
+    &[
+        1, 10, 1, 0, 0, 0, 1, 0, 0, 0, 0, 0, 0, 0, 2, 0, 0, 0, 0, 0, 0, 0, 7, 1, 0, 1, 110, 1, 0,
+        1, 110, 0,
+    ],
+    &[1, 11, 1, 0, 0, 0, 1, 0, 0, 0, 0, 0, 0, 0, 3, 1, 9],
+    &[1, 12, 2],
+    &[1, 13],
+    &[1, 14, 0, 0, 0, 0, 0, 0, 0, 4],
+    &[
+        1, 15, 0, 255, 255, 255, 255, 255, 255, 255, 0, 0, 0, 0, 0, 0, 0, 9,
+    ],
+    &[1, 16, 0, 2, 0, 255],
+    &[
+        2, 4, 1, 0, 0, 0, 1, 0, 0, 0, 0, 0, 0, 0, 1, 0, 0, 0, 0, 0, 0, 0, 1, 0, 1, 120, 0,
+    ],
+    &[
+        2, 17, 1, 0, 0, 0, 1, 0, 0, 0, 0, 0, 0, 0, 1, 2, 0, 1, 97, 0, 1, 98,
+    ],
+];
+
+/// True of every slice: what a law on lists of numbers asks of bytes.
+fn are_bytes(bytes: &[u8]) -> bool
+    ensures { result ≡ list_all (λ b. nat_lt b 256) bytes.now }
+{
+    bytes.iter().all(|b| u16::from(*b) < 256)
+}
+
+/// Whether bytes are decoded, and the body is encoded to them again.
+fn comes_round(alloc: Global, bytes: &[u8]) -> Result<bool, Fail> {
+    if !are_bytes(bytes) {
+        return Ok(false);
+    }
+    let Ok(body) = decode(alloc, bytes) else {
+        return Ok(false);
+    };
+    read_is_spelled();
+    let again = encode(alloc, &body)?;
+    Ok(again.as_slice() == bytes)
+}
+
+#[test]
+fn each_kind_comes_round(rt: HostRuntime) -> Result<(), Fail> {
+    for bytes in &SPELLED {
+        assert!(rt; comes_round(rt.alloc(), bytes)?);
+    }
+    Ok(())
+}
 
 #[test]
 fn damaged_bytes_tell_the_place(rt: HostRuntime) {
@@ -98,4 +175,22 @@ fn a_step_has_its_tag(rt: HostRuntime) -> Result<(), Fail> {
 #[test]
 fn a_name_is_folded(rt: HostRuntime) {
     assert_eq!(rt; key_tag(5, "a"), Tag(0x0563_dc4c_8601_ec8c));
+}
+
+/// A user's record of so many bytes, spelled.
+fn spell_user(alloc: Global, len: usize) -> Result<Result<List<u8>, EncodeFault>, Fail> {
+    let bytes = List::from_vec(vec![in alloc; 0u8; len]?);
+    if !are_bytes(bytes.as_slice()) {
+        return Err(Fail::from("each u8 is a byte"));
+    }
+    Ok(encode(alloc, &Body::User { bytes }))
+}
+
+#[test]
+fn a_record_has_at_most_4096_bytes(rt: HostRuntime) -> Result<(), Fail> {
+    let longest = spell_user(rt.alloc(), 4_092)?;
+    assert_eq!(rt; longest.ok().map(|bytes| bytes.len()), Some(4_096));
+    let longer = spell_user(rt.alloc(), 4_093)?;
+    assert_eq!(rt; longer.err(), Some(EncodeFault::TooLong));
+    Ok(())
 }
