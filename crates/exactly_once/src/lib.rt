@@ -1,5 +1,6 @@
-//! The main theorem, apart from any code: whatever happens, each invocation has effects as if it had run once. Its parts are
-//! laws, functions with an empty body of which each has its law as its contract; the definitions are in `specs/`.
+//! Towards the main theorem, apart from any code: whatever happens, each invocation has effects as if it had run once. What is
+//! proved of it are the laws below, functions with an empty body of which each has its law as its contract; the definitions are
+//! in `specs/`. That every event keeps the invariant is not proved yet, and so the theorem isn't.
 #![tactic(auto)]
 
 ghost use Rattle.exactly_once.specs.Events.{QuietEventsKeep};
