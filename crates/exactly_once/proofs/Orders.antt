@@ -19,19 +19,19 @@ use Rattle.boki_types.specs.declared.operation.Ask.TheVariants as k
 use Rattle.boki_types.specs.declared.plan.Setup.{Setup}
 use Rattle.boki_types.specs.declared.program.Function.{Function}
 use Rattle.boki_model.specs.Live.{Entry, Live, has_tag, count, meets, live, upto, is_live}
-use Rattle.boki_model.specs.Bodies.{step_of, in_range, child, call_tag, step_tag, tags_of}
+use Rattle.boki_model.specs.Bodies.{step_of, child, call_tag, step_tag, tags_of}
 use Rattle.boki_model.specs.Reads.{or_else}
 use Rattle.boki_model.specs.Writes.{Store, Version, Raised}
 use Rattle.boki_machine.specs.Attempt.{call_in, call_of}
 use Rattle.boki_machine.specs.Decided.{Point, point}
 use Rattle.exactly_once.specs.Sound.{Asks, Fits, MayStand, StandAt, frees_to, standing_at, IsSound}
-use Rattle.exactly_once.specs.Steps.{OwnTags, IsOwn, at_place, steps_of}
+use Rattle.exactly_once.specs.Steps.{OwnTags, has_paths, IsOwn, at_place, steps_of}
 use Rattle.exactly_once.specs.Invariant.{records, values, marks, AreFenced, Logs, IsNext, IsStep, IsOfKind, IsAsked, FencedBehind, AllFenced, IsAmong}
 use Rattle.exactly_once.specs.Orders.{OrdersKeep}
 use Rattle.exactly_once.proofs.Each.{each_weaker}
 use Rattle.exactly_once.proofs.Lives.{Under, live_under}
 use Rattle.exactly_once.proofs.Maps.{same_key}
-use Rattle.exactly_once.proofs.Steps.{step_path, in_order}
+use Rattle.exactly_once.proofs.Steps.{in_order}
 use Rattle.exactly_once.proofs.SamePlace.{IsSamePlace, same_point, same_marks, fit_upto, called_upto, asks_now, place_is, unbegun_marks}
 use Rattle.exactly_once.proofs.Simulates.{live_within}
 use Rattle.exactly_once.proofs.Children.{next_child}
@@ -208,36 +208,36 @@ module _ (setup : Setup) (fs : List Function) (store : Store) (log : List (Entry
   not_called : (p : List ℕ) → count (call_tag p) (live log) ≡ 0 → call_of p (live log) ≡ None
   not_called p none = uncounted p log own none
 
-  record_fits : (fences : List Raised) (body : Body) (condition : Option Cond) → in_range body ≡ true → meets condition (live log) ≡ true → IsOfKind setup fs store fences (length log) (live log) condition body (step_of body) → Fit body fences
-  record_fits fences (b.Submit p f args) condition range meet kind = record {
+  record_fits : (fences : List Raised) (body : Body) (condition : Option Cond) → has_paths body ≡ true → meets condition (live log) ≡ true → IsOfKind setup fs store fences (length log) (live log) condition body (step_of body) → Fit body fences
+  record_fits fences (b.Submit p f args) condition paths meet kind = record {
     fits = record {
-      request = one_number p (eqb-true (length p) 1 (and_parts _ _ (and_parts _ _ (and_parts _ _ (and_parts _ _ range).0).0).0).1);
+      request = one_number p (eqb-true (length p) 1 (and_parts _ _ paths).1);
       unknown = not_called p (sym (eqb-true 0 (count (call_tag p) (live log)) (ap (λ c. meets c (live log)) (sym kind) ∙ meet)));
     };
     fenced = tt;
   }
-  record_fits fences (b.Init p) condition range meet kind = step_fits fences p (b.Init p) condition range (fits_init setup fs store fences (length log) (live log) (live_under log) sound p) meet kind
-  record_fits fences (b.Read p i key) condition range meet kind =
-      step_fits fences p (b.Read p i key) condition (step_path p i (and_parts _ _ range).0) (fits_read setup fs store fences (length log) (live log) (live_under log) sound p i key) meet kind
-  record_fits fences (b.ReadGroup p i keys) condition range meet kind =
-      step_fits fences p (b.ReadGroup p i keys) condition (step_path p i (and_parts _ _ range).0) (fits_read_all setup fs store fences (length log) (live log) (live_under log) sound p i keys) meet kind
-  record_fits fences (b.Write p i place key here) condition range meet kind =
-      step_fits fences p (b.Write p i place key here) condition (step_path p i (and_parts _ _ (and_parts _ _ (and_parts _ _ range).0).0).0) (fits_write setup fs store fences (length log) (live log) (live_under log) sound p i place key here) meet kind
-  record_fits fences (b.Spawn p i ordinal name args) condition range meet kind =
-      step_fits fences p (b.Spawn p i ordinal name args) condition (step_path p i (and_parts _ _ (and_parts _ _ (and_parts _ _ (and_parts _ _ (and_parts _ _ range).0).0).0).0).0) (fits_spawn setup fs store fences (length log) (live log) (live_under log) sound p i ordinal name args) meet kind
-  record_fits fences (b.Join p i ordinal) condition range meet kind =
-      step_fits fences p (b.Join p i ordinal) condition (step_path p i (and_parts _ _ range).0) (fits_join setup fs store fences (length log) (live log) (live_under log) sound p i ordinal) meet kind
-  record_fits fences (b.Push p i queue value) condition range meet kind =
-      step_fits fences p (b.Push p i queue value) condition (step_path p i (and_parts _ _ (and_parts _ _ range).0).0) (fits_push setup fs store fences (length log) (live log) (live_under log) sound p i queue value) meet kind
-  record_fits fences (b.Pop p i queue) condition range meet kind =
-      step_fits fences p (b.Pop p i queue) condition (step_path p i (and_parts _ _ range).0) (fits_pop setup fs store fences (length log) (live log) (live_under log) sound p i queue) meet kind
-  record_fits fences (b.TxnBegin p i names) condition range meet kind =
-      step_fits fences p (b.TxnBegin p i names) condition (step_path p i (and_parts _ _ range).0) (fits_begin setup fs store fences (length log) (live log) (live_under log) sound p i names) meet kind
-  record_fits fences (b.TxnCommit p i begin names writes) condition range meet kind =
-      step_fits fences p (b.TxnCommit p i begin names writes) condition (step_path p i (and_parts _ _ (and_parts _ _ (and_parts _ _ (and_parts _ _ range).0).0).0).0) (fits_commit setup fs store fences (length log) (live log) (live_under log) sound p i begin names writes) meet kind
-  record_fits fences (b.Finish p i outcome) condition range meet kind =
-      step_fits fences p (b.Finish p i outcome) condition (step_path p i (and_parts _ _ range).0) (fits_finish setup fs store fences (length log) (live log) (live_under log) sound p i outcome) meet kind
-  record_fits fences _ condition range meet kind = record { fits = tt; fenced = tt }
+  record_fits fences (b.Init p) condition paths meet kind = step_fits fences p (b.Init p) condition paths (fits_init setup fs store fences (length log) (live log) (live_under log) sound p) meet kind
+  record_fits fences (b.Read p i key) condition paths meet kind =
+      step_fits fences p (b.Read p i key) condition paths (fits_read setup fs store fences (length log) (live log) (live_under log) sound p i key) meet kind
+  record_fits fences (b.ReadGroup p i keys) condition paths meet kind =
+      step_fits fences p (b.ReadGroup p i keys) condition paths (fits_read_all setup fs store fences (length log) (live log) (live_under log) sound p i keys) meet kind
+  record_fits fences (b.Write p i place key here) condition paths meet kind =
+      step_fits fences p (b.Write p i place key here) condition paths (fits_write setup fs store fences (length log) (live log) (live_under log) sound p i place key here) meet kind
+  record_fits fences (b.Spawn p i ordinal name args) condition paths meet kind =
+      step_fits fences p (b.Spawn p i ordinal name args) condition (and_parts _ _ (and_parts _ _ paths).0).0 (fits_spawn setup fs store fences (length log) (live log) (live_under log) sound p i ordinal name args) meet kind
+  record_fits fences (b.Join p i ordinal) condition paths meet kind =
+      step_fits fences p (b.Join p i ordinal) condition paths (fits_join setup fs store fences (length log) (live log) (live_under log) sound p i ordinal) meet kind
+  record_fits fences (b.Push p i queue value) condition paths meet kind =
+      step_fits fences p (b.Push p i queue value) condition paths (fits_push setup fs store fences (length log) (live log) (live_under log) sound p i queue value) meet kind
+  record_fits fences (b.Pop p i queue) condition paths meet kind =
+      step_fits fences p (b.Pop p i queue) condition paths (fits_pop setup fs store fences (length log) (live log) (live_under log) sound p i queue) meet kind
+  record_fits fences (b.TxnBegin p i names) condition paths meet kind =
+      step_fits fences p (b.TxnBegin p i names) condition paths (fits_begin setup fs store fences (length log) (live log) (live_under log) sound p i names) meet kind
+  record_fits fences (b.TxnCommit p i begin names writes) condition paths meet kind =
+      step_fits fences p (b.TxnCommit p i begin names writes) condition paths (fits_commit setup fs store fences (length log) (live log) (live_under log) sound p i begin names writes) meet kind
+  record_fits fences (b.Finish p i outcome) condition paths meet kind =
+      step_fits fences p (b.Finish p i outcome) condition paths (fits_finish setup fs store fences (length log) (live log) (live_under log) sound p i outcome) meet kind
+  record_fits fences _ condition paths meet kind = record { fits = tt; fenced = tt }
 
   -- a record that is ordered keeps the log sound, with its fences
   record SoundWith (fences : List Raised) (r : Entry Body) : Type 0 where
@@ -253,7 +253,7 @@ module _ (setup : Setup) (fs : List Function) (store : Store) (log : List (Entry
           record { sound_then = subst (IsSound setup fs store) same sound; fenced_then = subst (AllFenced store fences) same fenced }
       at true e =
           let same : record { seq = suc (length log); tags = r.tags; holds = r.holds } ∷ live log ≡ live (r ∷ log) = sym (ap (λ t. cond t (record { seq = suc (length log); tags = r.tags; holds = r.holds } ∷ live log) (live log)) e) in
-          let fit = record_fits fences r.holds r.condition asked.own.range e asked.kind in
+          let fit = record_fits fences r.holds r.condition asked.own.paths e asked.kind in
           record {
             sound_then = subst (IsSound setup fs store) same (sound_more setup fs store fences (length log) (live log) (live_under log) sound r.tags r.holds fit.fits);
             fenced_then = subst (AllFenced store fences) same (fenced_more setup fs store fences (length log) (live log) (live_under log) sound r.tags r.holds fit.fenced fenced);

@@ -9,16 +9,13 @@ use Rattle.boki_types.specs.declared.body.Body.{Body}
 use Rattle.boki_types.specs.declared.body.Body.TheVariants as b
 use Rattle.boki_model.specs.Live.{Entry, Live, has_tag, meets, joined, live}
 use Rattle.boki_model.specs.Reads.{tagged}
-use Rattle.boki_model.specs.Bodies.{tag_of, tag_number, path_number, name_number, key_tag, call_tag, step_tag, step_of, in_range, is_step, is_word, child}
+use Rattle.boki_model.specs.Bodies.{tag_of, tag_number, path_number, name_number, key_tag, call_tag, step_tag, step_of, child}
 use Rattle.boki_model.proofs.Logs.{length-tagged, places_ascend}
 use Rattle.boki_model.proofs.Tags.{same_numbers, number_below}
-use Rattle.exactly_once.specs.Steps.{OwnTags, IsOwn, is_step_of, steps_of, AreInOrder, StepsInOrder}
+use Rattle.exactly_once.specs.Steps.{OwnTags, has_paths, IsOwn, is_step_of, steps_of, AreInOrder, StepsInOrder}
 use Rattle.exactly_once.proofs.Maps.{same_itself, keys_cases}
 
 -- The path of a step record is in range, and that of a child.
-
-pub step_path : (p : List ℕ) (i : ℕ) → is_step p i ≡ true → IsPath p
-step_path p i e = (and_parts (is_path p) (leb 1 i) (and_parts (is_path p && leb 1 i) (is_word i) e).0).0
 
 ordinals_push : (ns : List ℕ) (n : ℕ) → are_ordinals ns ≡ true → is_ordinal n ≡ true → are_ordinals (ns ++ n ∷ []) ≡ true
 ordinals_push [] n all one = and_from (is_ordinal n) true one refl
@@ -74,35 +71,35 @@ module _ (path : List ℕ) (ok : IsPath path) where
       let lt = ltb-true t.0 (2 ^ 56) parts.0 in
       (λ i. below t.0 (omega (arith, lt)) i || user_tags ts parts.1 i)
 
-  own_step : (body : Body) (tags : List Tag) → OwnTags body tags → in_range body ≡ true → has_tag (step_tag path) tags ≡ is_step_of path (step_of body)
-  own_step (b.User bytes) tags own range = user_tags tags own
-  own_step (b.Submit p f args) tags own range = ap (has_tag (step_tag path)) own ∙ one_below (call_tag p) (call_tag_below p (and_parts _ _ (and_parts _ _ (and_parts _ _ (and_parts _ _ range).0).0).0).0)
-  own_step (b.Init p) tags own range = ap (has_tag (step_tag path)) own ∙ tagged_step p (tag_of 9 0 ∷ []) range (one_above (tag_number 9 0) (omega arith))
-  own_step (b.Read p i key) tags own range = ap (has_tag (step_tag path)) own ∙ tagged_step p [] (step_path p i (and_parts _ _ range).0) refl
-  own_step (b.Write p i place key value) tags own range = ap (has_tag (step_tag path)) own ∙ tagged_step p (tag_of 5 (name_number key) ∷ []) (step_path p i (and_parts _ _ (and_parts _ _ (and_parts _ _ range).0).0).0) (one_above (key_tag 5 key) (omega arith))
-  own_step (b.Spawn p i ordinal f args) tags own range =
-      let there : IsPath p = step_path p i (and_parts _ _ (and_parts _ _ (and_parts _ _ (and_parts _ _ (and_parts _ _ range).0).0).0).0).0 in
-      let few : length p ≤ 3 = leb-true (length p) 3 (and_parts _ _ (and_parts _ _ (and_parts _ _ (and_parts _ _ (and_parts _ _ range).0).0).0).0).1 in
-      let one : is_ordinal ordinal ≡ true = (and_parts _ _ (and_parts _ _ (and_parts _ _ (and_parts _ _ range).0).0).0).1 in
+  own_step : (body : Body) (tags : List Tag) → OwnTags body tags → has_paths body ≡ true → has_tag (step_tag path) tags ≡ is_step_of path (step_of body)
+  own_step (b.User bytes) tags own paths = user_tags tags own
+  own_step (b.Submit p f args) tags own paths = ap (has_tag (step_tag path)) own ∙ one_below (call_tag p) (call_tag_below p (and_parts _ _ paths).0)
+  own_step (b.Init p) tags own paths = ap (has_tag (step_tag path)) own ∙ tagged_step p (tag_of 9 0 ∷ []) paths (one_above (tag_number 9 0) (omega arith))
+  own_step (b.Read p i key) tags own paths = ap (has_tag (step_tag path)) own ∙ tagged_step p [] paths refl
+  own_step (b.Write p i place key value) tags own paths = ap (has_tag (step_tag path)) own ∙ tagged_step p (tag_of 5 (name_number key) ∷ []) paths (one_above (key_tag 5 key) (omega arith))
+  own_step (b.Spawn p i ordinal f args) tags own paths =
+      let there : IsPath p = (and_parts _ _ (and_parts _ _ paths).0).0 in
+      let few : length p ≤ 3 = leb-true (length p) 3 (and_parts _ _ (and_parts _ _ paths).0).1 in
+      let one : is_ordinal ordinal ≡ true = (and_parts _ _ paths).1 in
       ap (has_tag (step_tag path)) own ∙ tagged_step p (tag_of 1 (path_number (child p ordinal)) ∷ []) there (one_below (call_tag (child p ordinal)) (call_tag_below (child p ordinal) (child_path p ordinal there few one)))
-  own_step (b.Join p i ordinal) tags own range = ap (has_tag (step_tag path)) own ∙ tagged_step p [] (step_path p i (and_parts _ _ range).0) refl
-  own_step (b.Push p i queue value) tags own range = ap (has_tag (step_tag path)) own ∙ tagged_step p (tag_of 6 (name_number queue) ∷ []) (step_path p i (and_parts _ _ (and_parts _ _ range).0).0) (one_above (key_tag 6 queue) (omega arith))
-  own_step (b.Pop p i queue) tags own range = ap (has_tag (step_tag path)) own ∙ tagged_step p (tag_of 6 (name_number queue) ∷ []) (step_path p i (and_parts _ _ range).0) (one_above (key_tag 6 queue) (omega arith))
-  own_step (b.TxnBegin p i names) tags own range = ap (has_tag (step_tag path)) own ∙ tagged_step p [] (step_path p i (and_parts _ _ range).0) refl
-  own_step (b.TxnCommit p i begin names writes) tags own range = ap (has_tag (step_tag path)) own ∙ tagged_step p (tag_of 7 0 ∷ []) (step_path p i (and_parts _ _ (and_parts _ _ (and_parts _ _ (and_parts _ _ range).0).0).0).0) (one_above (tag_number 7 0) (omega arith))
-  own_step (b.Finish p i outcome) tags own range = ap (has_tag (step_tag path)) own ∙ tagged_step p (tag_of 9 0 ∷ []) (step_path p i (and_parts _ _ range).0) (one_above (tag_number 9 0) (omega arith))
-  own_step (b.ReadGroup p i keys) tags own range = ap (has_tag (step_tag path)) own ∙ tagged_step p [] (step_path p i (and_parts _ _ range).0) refl
-  own_step (b.SwitchBegin target) tags own range = ap (has_tag (step_tag path)) own ∙ one_above (tag_number 3 0) (omega arith)
-  own_step b.SwitchEnd tags own range = ap (has_tag (step_tag path)) own ∙ one_above (tag_number 3 0) (omega arith)
-  own_step (b.Trim w) tags own range = ap (has_tag (step_tag path)) own ∙ one_above (tag_number 4 0) (omega arith)
-  own_step (b.TrimTag number upto) tags own range = ap (has_tag (step_tag path)) own ∙ one_above (tag_number 8 number) (omega arith)
+  own_step (b.Join p i ordinal) tags own paths = ap (has_tag (step_tag path)) own ∙ tagged_step p [] paths refl
+  own_step (b.Push p i queue value) tags own paths = ap (has_tag (step_tag path)) own ∙ tagged_step p (tag_of 6 (name_number queue) ∷ []) paths (one_above (key_tag 6 queue) (omega arith))
+  own_step (b.Pop p i queue) tags own paths = ap (has_tag (step_tag path)) own ∙ tagged_step p (tag_of 6 (name_number queue) ∷ []) paths (one_above (key_tag 6 queue) (omega arith))
+  own_step (b.TxnBegin p i names) tags own paths = ap (has_tag (step_tag path)) own ∙ tagged_step p [] paths refl
+  own_step (b.TxnCommit p i begin names writes) tags own paths = ap (has_tag (step_tag path)) own ∙ tagged_step p (tag_of 7 0 ∷ []) paths (one_above (tag_number 7 0) (omega arith))
+  own_step (b.Finish p i outcome) tags own paths = ap (has_tag (step_tag path)) own ∙ tagged_step p (tag_of 9 0 ∷ []) paths (one_above (tag_number 9 0) (omega arith))
+  own_step (b.ReadGroup p i keys) tags own paths = ap (has_tag (step_tag path)) own ∙ tagged_step p [] paths refl
+  own_step (b.SwitchBegin target) tags own paths = ap (has_tag (step_tag path)) own ∙ one_above (tag_number 3 0) (omega arith)
+  own_step b.SwitchEnd tags own paths = ap (has_tag (step_tag path)) own ∙ one_above (tag_number 3 0) (omega arith)
+  own_step (b.Trim w) tags own paths = ap (has_tag (step_tag path)) own ∙ one_above (tag_number 4 0) (omega arith)
+  own_step (b.TrimTag number upto) tags own paths = ap (has_tag (step_tag path)) own ∙ one_above (tag_number 8 number) (omega arith)
 
   -- the live records with the step tag are the step records
   joined_steps : (seq : ℕ) (r : Entry Body) (xs : List (Live Body)) → IsOwn r → tagged (step_tag path) xs ≡ steps_of path xs → tagged (step_tag path) (joined seq r xs) ≡ steps_of path (joined seq r xs)
   joined_steps seq r xs own same = at (meets r.condition xs)
     where
       at : (t : Bool) → tagged (step_tag path) (cond t (record { seq = seq; tags = r.tags; holds = r.holds } ∷ xs) xs) ≡ steps_of path (cond t (record { seq = seq; tags = r.tags; holds = r.holds } ∷ xs) xs)
-      at true = λ i. cond (own_step r.holds r.tags own.tags own.range i) (seq ∷ same i) (same i)
+      at true = λ i. cond (own_step r.holds r.tags own.tags own.paths i) (seq ∷ same i) (same i)
       at false = same
 
   tagged_steps : (log : List (Entry Body)) → AllByRecursion IsOwn log → tagged (step_tag path) (live log) ≡ steps_of path (live log)

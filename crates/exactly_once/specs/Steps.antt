@@ -1,14 +1,14 @@
 -- The step records of an invocation in the log: each live one stands at the place that it was sent for.
-use Rattle.std.specs.Prelude.{◌≡◌, ℕ, ◌^◌, ◌==◌, nat_lt, IsTrue, Bool, false, cond, List, [], ◌∷◌, length, reverse, Option, Some, None, bytes_eq, slice_get}
+use Rattle.std.specs.Prelude.{◌≡◌, ℕ, ◌^◌, ◌==◌, ◌&&◌, nat_le, nat_lt, IsTrue, Bool, true, false, cond, List, [], ◌∷◌, length, reverse, Option, Some, None, bytes_eq, slice_get}
 use Rattle.std.specs.List.{list_all, AllByRecursion}
-use Rattle.lb_base.specs.Path.{IsPath}
+use Rattle.lb_base.specs.Path.{is_path, is_ordinal, IsPath}
 use Rattle.lb_base.specs.declared.value.Tag.{Tag}
 use Rattle.lb_base.specs.declared.value.Cond.{Cond}
 use Rattle.boki_types.specs.declared.body.Body.{Body}
 use Rattle.boki_types.specs.declared.body.Body.TheVariants as b
 use Rattle.boki_model.specs.Live.{Entry, Live, meets, live}
 use Rattle.boki_model.specs.Reads.{nth_seq}
-use Rattle.boki_model.specs.Bodies.{tags_of, tag_of, path_number, step_tag, step_of, in_range}
+use Rattle.boki_model.specs.Bodies.{tags_of, tag_of, path_number, step_tag, step_of}
 
 -- a record carries the tags of what it says; a user's record has tags of the class 0, which are below 2^56
 abbrev pub OwnTags : Body → List Tag → Type 0
@@ -19,10 +19,21 @@ OwnTags body tags = tags ≡ tags_of body
 abbrev pub at_place : List ℕ → ℕ → Option Cond
 at_place path place = Some (record { tag = tag_of 2 (path_number path); place = place })
 
+-- Of what a record says, its paths alone are in range: that of its invocation, and that of the child which it spawns. The laws
+-- need no more.
+abbrev pub is_path_of : Option (List ℕ × ℕ) → Bool
+is_path_of None = true
+is_path_of (Some s) = is_path s.0
+
+abbrev pub has_paths : Body → Bool
+has_paths (b.Submit p f args) = is_path p && (length p == 1)
+has_paths (b.Spawn p i ordinal f args) = is_path p && nat_le (length p) 3 && is_ordinal ordinal
+has_paths body = is_path_of (step_of body)
+
 -- a record as the runtime sends it
 pub record IsOwn (r : Entry Body) : Type 0 where
   pub tags : OwnTags r.holds r.tags
-  pub range : IsTrue (in_range r.holds)
+  pub paths : IsTrue (has_paths r.holds)
 
 abbrev pub is_step_of : List ℕ → Option (List ℕ × ℕ) → Bool
 is_step_of path None = false
