@@ -9,3 +9,5 @@ pub mod Opening
 pub mod Names
 pub mod Events
 pub mod Steps
+pub mod Versions
+pub mod Moves
