@@ -134,17 +134,21 @@ calm_apart : (m n : Mode) (seq : ℕ) (ms : Modes) (pending : Option Switch) →
 calm_apart m n seq ms None is calm apart mode_is = apart_same m n apart (sym mode_is ∙ calm.current)
 calm_apart m n seq ms (Some s) is calm apart mode_is = apart_other_T m n apart (sym mode_is)
 
+-- of two Inits, the one that lies behind the other is of an invocation that ended before
+pub tails_exclude : (first : Mode) (p : List ℕ) (m n : Mode) (x : Live Body) (behind other : List (Live Body)) (k : ℕ) → x.holds ≡ b.Init p → Under k other → mode_behind first behind ≡ m → mode_behind first other ≡ n → AreApart m n → Tail (x ∷ behind) other → IsEnded p other
+tails_exclude first p m n x behind other k holds under mode_is mode_other apart t =
+    ⊎_elim (λ ended. ended) (λ calm. absurd (calm_apart m n x.seq (modes first other) (modes first other).pending refl calm apart mode_other))
+    (stays_calm first p m x behind holds k other under mode_is (apart_not_T m n apart) t)
+
 pub modes_exclude : ModesExclude
 modes_exclude first log p q i j m n one two apart lt =
     let under = live_under log in
     let init : IsAt (length log) i (live log) (b.Init p) = at_some (length log) i (live log) (b.Init p) under one.init in
     let other : IsAt (length log) j (live log) (b.Init q) = at_some (length log) j (live log) (b.Init q) under two.init in
     let t = tails_by_seq init.record_there other.record_there init.behind other.behind (length log) (live log) under init.tail other.tail (omega (arith, lt, init.seq_is, other.seq_is)) in
-    let mode_is : mode_behind first init.behind ≡ m = ap (mode_behind first) (sym init.below) ∙ one.mode_is in
-    let mode_other : mode_behind first other.behind ≡ n = ap (mode_behind first) (sym other.below) ∙ two.mode_is in
     subst (IsEnded p) (sym other.below)
-    (⊎_elim (λ ended. ended) (λ calm. absurd (calm_apart m n init.record_there.seq (modes first other.behind) (modes first other.behind).pending refl calm apart mode_other))
-    (stays_calm first p m init.record_there init.behind init.holds_is (length log) other.behind (under_behind other.record_there other.behind (length log) (live log) under other.tail) mode_is (apart_not_T m n apart) t))
+    (tails_exclude first p m n init.record_there init.behind other.behind (length log) init.holds_is (under_behind other.record_there other.behind (length log) (live log) under other.tail)
+    (ap (mode_behind first) (sym init.below) ∙ one.mode_is) (ap (mode_behind first) (sym other.below) ∙ two.mode_is) apart t)
 
 -- the floor is at most the newest seqnum
 counted_within : (body : Body) (seq : ℕ) (xs : List (Live Body)) → counted body seq xs ≤ seq

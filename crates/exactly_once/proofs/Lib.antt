@@ -29,3 +29,6 @@ pub mod Opening
 pub mod Names
 pub mod NamesKeep
 pub mod Events
+pub mod Cursors
+pub mod Writers
+pub mod VersionsKeep

@@ -12,6 +12,7 @@ ghost use Rattle.exactly_once.specs.Orders.{OrdersKeep};
 ghost use Rattle.exactly_once.specs.Reported.{ReportsAgree};
 ghost use Rattle.exactly_once.specs.Runs.{SoundRuns};
 ghost use Rattle.exactly_once.specs.Steps.{StepsInOrder};
+ghost use Rattle.exactly_once.specs.Versions.{VersionsKeep};
 
 /// Of two invocations, one of mode R and one of mode W, the one whose Init comes first has ended before the other begins.
 pub fn modes_exclude()
@@ -66,4 +67,9 @@ pub fn names_keep()
 /// Events that send and order nothing keep the invariant.
 pub fn quiet_events_keep()
     ensures { QuietEventsKeep }
+{}
+
+/// Putting in the version of an attempt's next free write keeps the invariant.
+pub fn versions_keep()
+    ensures { VersionsKeep }
 {}
