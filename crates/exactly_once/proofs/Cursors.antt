@@ -27,7 +27,7 @@ pub upto_tail : (c : ℕ) (xs : List (Live Body)) → Tail (upto c xs) xs
 upto_tail c [] = here
 upto_tail c (x ∷ xs) = elim (leb x.seq c) as (λ t. Tail (cond t (x ∷ xs) (upto c xs)) (x ∷ xs)) [ true ↦ here | false ↦ there (upto_tail c xs) ]
 
-under_at : (v : Live Body) (vs : List (Live Body)) (m : ℕ) (ws : List (Live Body)) → Under m ws → Tail (v ∷ vs) ws → Under m (v ∷ vs)
+pub under_at : (v : Live Body) (vs : List (Live Body)) (m : ℕ) (ws : List (Live Body)) → Under m ws → Tail (v ∷ vs) ws → Under m (v ∷ vs)
 under_at v vs m ws under here = under
 under_at v vs m (w ∷ ws) under (there t) = let u = under_at v vs under.0 ws under.3 t in (u.0, u.1, (let lt = u.2 in let l = under.2 in omega (arith, lt, l)), u.3)
 
@@ -43,18 +43,18 @@ one_record x y xs ys n zs under s t same = at (compare_tails (x ∷ xs) (y ∷ y
 leb-self : (n : ℕ) → leb n n ≡ true
 leb-self n = le-leb n n (omega arith)
 
+pub not_leb : (m n : ℕ) → n < m → leb m n ≡ false
+not_leb m n lt = at (leb m n) refl
+  where
+    at : (b : Bool) → leb m n ≡ b → b ≡ false
+    at false e = refl
+    at true e = absurd (let le = leb-true m n e in let h : ⊥ = omega (arith, le, lt) in h)
+
 pub upto_at : (x : Live Body) (xs : List (Live Body)) (n : ℕ) (zs : List (Live Body)) → Under n zs → Tail (x ∷ xs) zs → upto x.seq zs ≡ x ∷ xs
 upto_at x xs n zs under here = ap (λ b. cond b (x ∷ xs) (upto x.seq xs)) (leb-self x.seq)
 upto_at x xs n (z ∷ zs) under (there t) =
     let lt = tail_below n x z xs zs under t in
     ap (λ b. cond b (z ∷ zs) (upto x.seq zs)) (not_leb z.seq x.seq lt) ∙ upto_at x xs under.0 zs under.3 t
-  where
-    not_leb : (m n : ℕ) → n < m → leb m n ≡ false
-    not_leb m n lt = at (leb m n) refl
-      where
-        at : (b : Bool) → leb m n ≡ b → b ≡ false
-        at false e = refl
-        at true e = absurd (let le = leb-true m n e in let h : ⊥ = omega (arith, le, lt) in h)
 
 pub fit_tail : (setup : Setup) (fs : List Function) (store : Store) (xs ys : List (Live Body)) → Tail xs ys → AllFit setup fs store ys → AllFit setup fs store xs
 fit_tail setup fs store xs ys here fit = fit

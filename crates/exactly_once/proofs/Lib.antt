@@ -30,5 +30,7 @@ pub mod Names
 pub mod NamesKeep
 pub mod Events
 pub mod Cursors
+pub mod Origins
 pub mod Writers
+pub mod LastCursor
 pub mod VersionsKeep

@@ -22,12 +22,12 @@ use Rattle.exactly_once.proofs.Points.{stands, Does, does, apart, began, operate
 use Rattle.exactly_once.proofs.Frees.{more_older}
 
 -- a record that is no step record of the path leaves its point
-point_apart : (setup : Setup) (fs : List Function) (store : Store) (p : List ℕ) (x : Live Body) (xs : List (Live Body)) (s : Option (List ℕ × ℕ)) → is_step_of p s ≡ false → advanced setup fs store xs p x s (stands setup fs store p xs) ≡ stands setup fs store p xs
+pub point_apart : (setup : Setup) (fs : List Function) (store : Store) (p : List ℕ) (x : Live Body) (xs : List (Live Body)) (s : Option (List ℕ × ℕ)) → is_step_of p s ≡ false → advanced setup fs store xs p x s (stands setup fs store p xs) ≡ stands setup fs store p xs
 point_apart setup fs store p x xs None e = refl
 point_apart setup fs store p x xs (Some s) e = ap (λ t. cond t (stepped setup fs store xs p x.seq x.holds s.1 (stands setup fs store p xs)) (stands setup fs store p xs)) e
 
 -- and its marks
-marks_apart : (p : List ℕ) (seq : ℕ) (body : Body) (others : List Raised) → is_step_of p (step_of body) ≡ false → marks_by p seq body others ≡ others
+pub marks_apart : (p : List ℕ) (seq : ℕ) (body : Body) (others : List Raised) → is_step_of p (step_of body) ≡ false → marks_by p seq body others ≡ others
 marks_apart p seq (b.Read q i key) others e = rw e
 marks_apart p seq (b.ReadGroup q i keys) others e = rw e
 marks_apart p seq _ others e = refl
@@ -46,11 +46,11 @@ abbrev pub IsSamePlace : List ℕ → ℕ → List (Live Body) → Type 0
 IsSamePlace p c xs = length (steps_of p (upto c xs)) ≡ length (steps_of p xs)
 
 -- then the newest record is none of them, or is among them
-record IsSkipped (p : List ℕ) (c : ℕ) (x : Live Body) (xs : List (Live Body)) : Type 0 where
+pub record IsSkipped (p : List ℕ) (c : ℕ) (x : Live Body) (xs : List (Live Body)) : Type 0 where
   pub no_step : is_step_of p (step_of x.holds) ≡ false
   pub rest : IsSamePlace p c xs
 
-skipped : (p : List ℕ) (c : ℕ) (x : Live Body) (xs : List (Live Body)) → leb x.seq c ≡ false → IsSamePlace p c (x ∷ xs) → IsSkipped p c x xs
+pub skipped : (p : List ℕ) (c : ℕ) (x : Live Body) (xs : List (Live Body)) → leb x.seq c ≡ false → IsSamePlace p c (x ∷ xs) → IsSkipped p c x xs
 skipped p c x xs later same = at (is_step_of p (step_of x.holds)) refl (ap (λ t. length (steps_of p (cond t (x ∷ xs) (upto c xs)))) (sym later) ∙ same)
   where
     at : (u : Bool) → is_step_of p (step_of x.holds) ≡ u → length (steps_of p (upto c xs)) ≡ length (cond u (x.seq ∷ steps_of p xs) (steps_of p xs)) → IsSkipped p c x xs

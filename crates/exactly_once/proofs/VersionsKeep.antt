@@ -1,6 +1,6 @@
 -- A version that is put in keeps the invariant.
 use Rattle.exactly_once.specs.Versions.{VersionsKeep}
-use Rattle.exactly_once.proofs.Writers.{logs_apart}
+use Rattle.exactly_once.proofs.LastCursor.{reads_below}
 
 pub versions_keep : VersionsKeep
 versions_keep = ?todo
