@@ -33,4 +33,5 @@ pub mod Cursors
 pub mod Origins
 pub mod Writers
 pub mod LastCursor
+pub mod Puts
 pub mod VersionsKeep
