@@ -34,4 +34,5 @@ pub mod Origins
 pub mod Writers
 pub mod LastCursor
 pub mod Puts
+pub mod Unmoved
 pub mod VersionsKeep
