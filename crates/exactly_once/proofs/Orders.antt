@@ -47,7 +47,7 @@ none_kept : {A : Type 0} (test : A → Bool) (xs : List A) → AllByRecursion (�
 none_kept test [] all = refl
 none_kept test (x ∷ xs) all = rw all.0 (none_kept test xs all.1)
 
-stand_none : (setup : Setup) (fs : List Function) (store : Store) (xs : List (Live Body)) (s : Option (List ℕ × ℕ)) → StandAt setup fs store xs s []
+pub stand_none : (setup : Setup) (fs : List Function) (store : Store) (xs : List (Live Body)) (s : Option (List ℕ × ℕ)) → StandAt setup fs store xs s []
 stand_none setup fs store xs None = refl
 stand_none setup fs store xs (Some s) = at (point setup fs store s.0 xs).result (point setup fs store s.0 xs).mode
   where

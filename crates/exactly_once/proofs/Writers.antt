@@ -131,7 +131,7 @@ module _ (setup : Setup) (fs : List Function) (store : Store) (fences : List Rai
   pub on_tail : Tail (stood.on ∷ stood.behind) now
   on_tail = longer stood.tail (upto_tail a.cursor now)
 
-  on_seq : stood.on.seq ≡ a.cursor
+  pub on_seq : stood.on.seq ≡ a.cursor
   on_seq = stood.seq_is ∙ F.cursor
 
   pub behind_is : behind_it ≡ stood.on ∷ stood.behind
