@@ -23,7 +23,7 @@ use Rattle.exactly_once.proofs.MicroSteps.{steps_keep}
 
 -- Lists of attempts.
 
-set_each : (P : Attempt → Type 0) (n : ℕ) (a : Attempt) (xs : List Numbered) → P a → AllByRecursion P (map (λ x. x.attempt) xs) → AllByRecursion P (map (λ x. x.attempt) (set_attempt n a xs))
+pub set_each : (P : Attempt → Type 0) (n : ℕ) (a : Attempt) (xs : List Numbered) → P a → AllByRecursion P (map (λ x. x.attempt) xs) → AllByRecursion P (map (λ x. x.attempt) (set_attempt n a xs))
 set_each P n a [] one all = tt
 set_each P n a (x ∷ xs) one all = at (eqb n x.number) (set_each P n a xs one all.1)
   where
@@ -63,14 +63,14 @@ module _ (setup : Setup) (fs : List Function) (store : Store) (fences : List Rai
     late = f.late;
   }
 
-  following_as : (n : ℕ) (now : List (Live Body)) (positions : List ℕ) (a : Attempt) (life : Life) (waiting : Bool) → IsSeen a.cursor (position_of positions a.engine) life → IsFollowing setup fs store fences n now positions a → IsFollowing setup fs store fences n now positions (record a { life = life; waiting = waiting })
+  pub following_as : (n : ℕ) (now : List (Live Body)) (positions : List ℕ) (a : Attempt) (life : Life) (waiting : Bool) → IsSeen a.cursor (position_of positions a.engine) life → IsFollowing setup fs store fences n now positions a → IsFollowing setup fs store fences n now positions (record a { life = life; waiting = waiting })
   following_as n now positions a life waiting seen is = record {
     within = is.within;
     seen = seen;
     follows = ⊎_elim (λ fresh. inl (fresh_as a life waiting fresh)) (λ f. inr (follows_as (upto a.cursor now) a life waiting f)) is.follows;
   }
 
-  killed_follows : (n : ℕ) (now : List (Live Body)) (positions : List ℕ) (a : Attempt) → IsFollowing setup fs store fences n now positions a → IsFollowing setup fs store fences n now positions (after_kill a)
+  pub killed_follows : (n : ℕ) (now : List (Live Body)) (positions : List ℕ) (a : Attempt) → IsFollowing setup fs store fences n now positions a → IsFollowing setup fs store fences n now positions (after_kill a)
   killed_follows n now positions a is =
       elim (is_running a.life) as (λ t. IsFollowing setup fs store fences n now positions (cond t (record a { life = Killed }) a))
       [ true ↦ following_as n now positions a Killed a.waiting tt is | false ↦ is ]

@@ -36,3 +36,7 @@ pub mod LastCursor
 pub mod Puts
 pub mod Unmoved
 pub mod VersionsKeep
+pub mod Shards
+pub mod Engines
+pub mod EventsKeep
+pub mod Exact

@@ -11,3 +11,4 @@ pub mod Events
 pub mod Steps
 pub mod Versions
 pub mod Moves
+pub mod Exact

@@ -4,6 +4,7 @@
 #![tactic(auto)]
 
 ghost use Rattle.exactly_once.specs.Events.{QuietEventsKeep};
+ghost use Rattle.exactly_once.specs.Exact.{EventsKeep};
 ghost use Rattle.exactly_once.specs.Exclusion.{ModesExclude, FloorsPass};
 ghost use Rattle.exactly_once.specs.MicroSteps.{MicroStepsKeep};
 ghost use Rattle.exactly_once.specs.Names.{NamesKeep};
@@ -72,4 +73,9 @@ pub fn quiet_events_keep()
 /// Putting in the version of an attempt's next free write keeps the invariant.
 pub fn versions_keep()
     ensures { VersionsKeep }
+{}
+
+/// Every event that a plan can have keeps the invariant of the machine.
+pub fn events_keep()
+    ensures { EventsKeep }
 {}
