@@ -29,3 +29,5 @@ pub mod Opening
 pub mod Names
 pub mod NamesKeep
 pub mod Events
+pub mod Scripts
+pub mod OpenTransactions
