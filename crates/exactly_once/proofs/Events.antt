@@ -63,7 +63,7 @@ module _ (setup : Setup) (fs : List Function) (store : Store) (fences : List Rai
     late = f.late;
   }
 
-  following_as : (n : ℕ) (now : List (Live Body)) (positions : List ℕ) (a : Attempt) (life : Life) (waiting : Bool) → IsSeen a.cursor (position_of positions a.engine) life → IsFollowing setup fs store fences n now positions a → IsFollowing setup fs store fences n now positions (record a { life = life; waiting = waiting })
+  pub following_as : (n : ℕ) (now : List (Live Body)) (positions : List ℕ) (a : Attempt) (life : Life) (waiting : Bool) → IsSeen a.cursor (position_of positions a.engine) life → IsFollowing setup fs store fences n now positions a → IsFollowing setup fs store fences n now positions (record a { life = life; waiting = waiting })
   following_as n now positions a life waiting seen is = record {
     within = is.within;
     seen = seen;

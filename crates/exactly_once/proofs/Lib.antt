@@ -31,3 +31,5 @@ pub mod NamesKeep
 pub mod Events
 pub mod Scripts
 pub mod OpenTransactions
+pub mod Cursors
+pub mod Recorded

@@ -145,7 +145,7 @@ module _ (setup : Setup) (fs : List Function) (store : Store) (fences : List Rai
 
 -- A record that is live is at its place.
 
-among_each : {A : Type 0} (P : A → Type 0) (x : A) (ys : List A) → IsAmong x ys → AllByRecursion P ys → P x
+pub among_each : {A : Type 0} (P : A → Type 0) (x : A) (ys : List A) → IsAmong x ys → AllByRecursion P ys → P x
 among_each P x [] among all = absurd among
 among_each P x (y ∷ ys) among all = ⊎_elim (λ same. subst P (sym same) all.0) (λ rest. among_each P x ys rest all.1) among
 

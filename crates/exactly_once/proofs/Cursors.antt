@@ -1,0 +1,185 @@
+-- The record at an invocation's cursor, and the operations that come behind it: in mode W its versions are all its free
+-- operations, and it asks one logged operation at a place.
+use Rattle.std.proofs.Common.{◌≡◌, ◌⊎◌, ⊎_elim, ℕ, zero, suc, ◌+◌, ◌-◌, ◌<◌, ◌≤◌, Bool, true, false, cond, eqb, ◌&&◌, List, [], ◌∷◌, length, Option, Some, None, refl, sym, ap, ◌∙◌, subst, arith}
+use Rattle.std.specs.Prelude.{bytes_eq, is_some}
+use Rattle.std.proofs.lemmas.Bool.{and_parts, eqb-true, cases_order}
+use Rattle.lb_base.specs.declared.value.Value.{Value}
+use Rattle.lb_base.specs.declared.value.Mode.{Mode}
+use Rattle.lb_base.specs.declared.value.Mode.TheVariants.{R, W, T}
+use Rattle.lb_base.specs.declared.value.Outcome.{Outcome}
+use Rattle.boki_types.specs.declared.body.Body.{Body}
+use Rattle.boki_types.specs.declared.operation.Op.TheVariants as o
+use Rattle.boki_types.specs.declared.operation.Ask.{Ask}
+use Rattle.boki_types.specs.declared.operation.Ask.TheVariants as k
+use Rattle.boki_types.specs.declared.operation.Answer.{Answer}
+use Rattle.boki_types.specs.declared.operation.Answer.TheVariants as a
+use Rattle.boki_types.specs.declared.plan.Setup.{Setup}
+use Rattle.boki_types.specs.declared.program.Function.{Function}
+use Rattle.boki_model.specs.Live.{Live}
+use Rattle.boki_model.specs.Bodies.{step_of}
+use Rattle.boki_model.specs.Writes.{Store, Version, Raised, version, versions_at, has_version}
+use Rattle.boki_machine.specs.Decided.{Point, asked_at, free_answer, more}
+use Rattle.exactly_once.specs.Sound.{Reaches, Asks, AreNextWrites, MayStand, StandAt, frees_to, standing_at, AllFit}
+use Rattle.exactly_once.specs.Invariant.{MayLog, Logs}
+use Rattle.exactly_once.proofs.Tails.{Tail, here, there, shorter}
+use Rattle.exactly_once.proofs.Each.{each_weaker}
+use Rattle.exactly_once.proofs.Lives.{Under}
+use Rattle.exactly_once.proofs.Positions.{Numbered, numbered_within, numbered_once, At, at_of, found_version}
+use Rattle.exactly_once.proofs.Points.{stands, Does, does, apart, began, operates, ends, cursor_within}
+use Rattle.exactly_once.proofs.Frees.{on, IsNext, next_decided, long_reaches, index_is, is_read, IsRead, reads, reads_all, none_in_T}
+use Rattle.exactly_once.proofs.FreeTurns.{stand_numbered}
+
+-- What is decided so far, was decided before.
+
+module _ (fs : List Function) (store : Store) (xs : List (Live Body)) (p : List ℕ) (st : Point) where
+  long_before : (d n m : ℕ) → m ≡ d + n → length (on fs store xs p st m) ≡ m + length st.answers → length (on fs store xs p st n) ≡ n + length st.answers
+  long_before zero n m e long = let same : m ≡ n = omega (arith, e) in subst (λ n. length (on fs store xs p st n) ≡ n + length st.answers) same long
+  long_before (suc d) n m e long =
+      let same : m ≡ suc (d + n) = omega (arith, e) in
+      let next : IsNext fs store xs p st (d + n) = next_decided fs store xs p st (d + n) (subst (λ m. length (on fs store xs p st m) ≡ m + length st.answers) same long) in
+      long_before d n (d + n) refl next.before
+
+  -- of two numbers of decided operations, behind the lesser one a free operation is decided
+  free_between : (n m : ℕ) → n < m → length (on fs store xs p st m) ≡ m + length st.answers → IsNext fs store xs p st n
+  free_between n m lt long = next_decided fs store xs p st n (long_before (m - suc n) (suc n) m (omega (arith, lt)) long)
+
+  -- where a read or an operation of mode T is free, it isn't logged
+  no_free : (fences : List Raised) (n : ℕ) (ask : Ask) → (st.mode ≡ W → ⊥) → asked_at fs p st (on fs store xs p st n) ≡ Some ask → MayLog fences st.mode st.cursor ask → IsNext fs store xs p st n → ⊥
+  no_free fences n ask not_W asked may next = at st.mode refl may next.free
+    where
+      at : (mode : Mode) → st.mode ≡ mode → MayLog fences mode st.cursor ask → free_answer store xs st.cursor n mode (asked_at fs p st (on fs store xs p st n)) ≡ Some next.answer → ⊥
+      at W e may free = not_W e
+      at T e may free = let no_way : None ≡ Some next.answer = free in cc
+      at R e may free = by_read (is_read store xs st.cursor n (asked_at fs p st (on fs store xs p st n)) next.answer free)
+        where
+          by_read : IsRead store xs st.cursor (asked_at fs p st (on fs store xs p st n)) next.answer → ⊥
+          by_read (reads key is answer) = let same : ask ≡ k.Op (o.Read key) = (let e : Some ask ≡ Some (k.Op (o.Read key)) = sym asked ∙ is in cc) in subst (MayLog fences R st.cursor) same may
+          by_read (reads_all keys is answer) = let same : ask ≡ k.Op (o.ReadGroup keys) = (let e : Some ask ≡ Some (k.Op (o.ReadGroup keys)) = sym asked ∙ is in cc) in subst (MayLog fences R st.cursor) same may
+
+  -- one logged operation, or end, at a place
+  module _ (fences : List Raised) (i j : ℕ) (one two : Ask) (logs : Logs fs store fences xs p st i one) (others : Logs fs store fences xs p st j two) where
+    same_frees : frees_to i st ≡ frees_to j st
+    same_frees = at st.mode refl
+      where
+        unless : (st.mode ≡ W → ⊥) → frees_to i st ≡ frees_to j st
+        unless not_W =
+            ⊎_elim (λ e. e)
+            (λ c. ⊎_elim
+            (λ lt. absurd (no_free fences (frees_to i st) one not_W logs.asks.asked logs.may_log (free_between (frees_to i st) (frees_to j st) lt (long_reaches fs store xs p st j others.asks.reaches))))
+            (λ gt. absurd (no_free fences (frees_to j st) two not_W others.asks.asked others.may_log (free_between (frees_to j st) (frees_to i st) gt (long_reaches fs store xs p st i logs.asks.reaches)))) c)
+            (cases_order (frees_to i st) (frees_to j st))
+
+        at : (mode : Mode) → st.mode ≡ mode → frees_to i st ≡ frees_to j st
+        at W e = logs.asks.reaches.all_versions e ∙ sym (others.asks.reaches.all_versions e)
+        at R e = unless (λ f. let no_way : R ≡ W = sym e ∙ f in cc)
+        at T e = unless (λ f. let no_way : T ≡ W = sym e ∙ f in cc)
+
+    pub same_ask : one ≡ two
+    same_ask =
+        let e : Some one ≡ Some two = sym logs.asks.asked ∙ ap (λ n. asked_at fs p st (on fs store xs p st n)) same_frees ∙ others.asks.asked in cc
+
+-- The record at the cursor.
+
+-- a version that is found stands at its cursor
+version_within : (key : List ℕ) (c j most : ℕ) (vs : List Version) → At c (λ v. v.k ≤ most) vs → is_some (version key c j vs) ≡ true → j ≤ most
+version_within key c j most [] each found = let no_way : false ≡ true = found in cc
+version_within key c j most (v ∷ vs) each found = at (version_within key c j most vs each.1) (bytes_eq key v.key && eqb c v.cursor && eqb j v.k) refl found
+  where
+    at : (is_some (version key c j vs) ≡ true → j ≤ most) → (t : Bool) → (bytes_eq key v.key && eqb c v.cursor && eqb j v.k) ≡ t → is_some (cond t (Some v.value) (version key c j vs)) ≡ true → j ≤ most
+    at ih true e found =
+        let parts = and_parts (bytes_eq key v.key && eqb c v.cursor) (eqb j v.k) e in
+        let le : v.k ≤ most = each.0 (and_parts (bytes_eq key v.key) (eqb c v.cursor) parts.0).1 in
+        let same : j ≡ v.k = eqb-true j v.k parts.1 in omega (arith, le, same)
+    at ih false e found = ih found
+
+-- the version of a number
+record IsVersion (n : ℕ) (vs : List Version) : Type 0 where
+  pub v : Version
+  pub rest : List Version
+  pub tail : Tail (v ∷ rest) vs
+  pub long : length rest ≡ n
+
+version_of : (n : ℕ) (vs : List Version) → n < length vs → IsVersion n vs
+version_of n [] lt = absurd (let no_way : ⊥ = omega (arith, lt) in no_way)
+version_of n (v ∷ vs) lt = ⊎_elim (λ e. record { v = v; rest = vs; tail = here; long = e }) (λ c. ⊎_elim (λ less. absurd (let no_way : ⊥ = omega (arith, lt, less) in no_way)) (λ more. let found = version_of n vs more in record { v = found.v; rest = found.rest; tail = there found.tail; long = found.long }) c) (cases_order (length vs) n)
+
+next_at : (fs : List Function) (store : Store) (xs : List (Live Body)) (p : List ℕ) (st : Point) (v : Version) (rest vs : List Version) → Tail (v ∷ rest) vs → AreNextWrites fs store xs p st vs → AreNextWrites fs store xs p st (v ∷ rest)
+next_at fs store xs p st v rest vs here are = are
+next_at fs store xs p st v rest (u ∷ vs) (there t) are = next_at fs store xs p st v rest vs t are.2
+
+module _ (setup : Setup) (fs : List Function) (store : Store) (p : List ℕ) (c : ℕ) where
+  pub record IsHead (xs : List (Live Body)) : Type 0 where
+    pub x : Live Body
+    pub rest : List (Live Body)
+    pub is : xs ≡ x ∷ rest
+    pub seq_is : x.seq ≡ c
+    pub index : ℕ
+    pub step : ◌≡◌ {A = Option (List ℕ × ℕ)} (step_of x.holds) (Some (p, index))
+
+  pub head : (xs : List (Live Body)) → Under c xs → AllFit setup fs store xs → (stands setup fs store p xs).begun ≡ true → (stands setup fs store p xs).cursor ≡ c → IsHead xs
+  head [] under fit begun cursor = let no_way : false ≡ true = begun in cc
+  head (x ∷ xs) under fit begun cursor = at (stands setup fs store p (x ∷ xs)) cursor (does setup fs store x xs p fit.0)
+    where
+      at : (next : Point) → next.cursor ≡ c → Does setup fs store x.seq x.holds xs p next → IsHead (x ∷ xs)
+      at next cursor (apart other finish is) =
+          absurd (let le = cursor_within setup fs store under.0 xs p under.3 fit.2 in let e : (stands setup fs store p xs).cursor ≡ c = ap (λ (st : Point). st.cursor) (sym is) ∙ cursor in let no_way : ⊥ = omega (arith, le, e, under.2) in no_way)
+      at next cursor (began body may is) = record { x = x; rest = xs; is = refl; seq_is = ap (λ (st : Point). st.cursor) (sym is) ∙ cursor; index = 1; step = ap step_of body }
+      at next cursor (operates i step finish reaches is) = record { x = x; rest = xs; is = refl; seq_is = ap (λ (st : Point). st.cursor) (sym is) ∙ cursor; index = i; step = step }
+      at next cursor (ends i outcome body asks is) = record { x = x; rest = xs; is = refl; seq_is = ap (λ (st : Point). st.cursor) (sym is) ∙ cursor; index = i; step = ap step_of body }
+
+  module _ (xs : List (Live Body)) (under : Under c xs) (fit : AllFit setup fs store xs) (begun : (stands setup fs store p xs).begun ≡ true) (unended : (stands setup fs store p xs).result ≡ None) (cursor : (stands setup fs store p xs).cursor ≡ c) where
+    abbrev st : Point
+    st = stands setup fs store p xs
+
+    stand_here : MayStand fs store xs p st None st.mode (standing_at c store.versions)
+    stand_here =
+        let h : IsHead xs = head xs under fit begun cursor in
+        let fit_there : AllFit setup fs store (h.x ∷ h.rest) = subst (AllFit setup fs store) h.is fit in
+        let one : StandAt setup fs store (h.x ∷ h.rest) (Some (p, h.index)) (standing_at h.x.seq store.versions) = subst (λ s. StandAt setup fs store (h.x ∷ h.rest) s (standing_at h.x.seq store.versions)) h.step fit_there.1 in
+        let two : StandAt setup fs store xs (Some (p, h.index)) (standing_at h.x.seq store.versions) = subst (λ xs. StandAt setup fs store xs (Some (p, h.index)) (standing_at h.x.seq store.versions)) (sym h.is) one in
+        let three : MayStand fs store xs p st st.result st.mode (standing_at c store.versions) = subst (λ c. MayStand fs store xs p st st.result st.mode (standing_at c store.versions)) h.seq_is two in
+        subst (λ r. MayStand fs store xs p st r st.mode (standing_at c store.versions)) unended three
+
+    numbered_here : Numbered (standing_at c store.versions)
+    numbered_here = stand_numbered fs store xs p st None st.mode (standing_at c store.versions) stand_here
+
+    module _ (mode : st.mode ≡ W) where
+      next_writes : AreNextWrites fs store xs p st (standing_at c store.versions)
+      next_writes = subst (λ m. MayStand fs store xs p st None m (standing_at c store.versions)) mode stand_here
+
+      within : At c (λ v. v.k ≤ versions_at c store.versions) store.versions
+      within = at_of c (λ v. v.k ≤ versions_at c store.versions) store.versions
+          (each_weaker (λ (v : Version). (0 < v.k) × (v.k ≤ versions_at c store.versions)) (λ (v : Version). v.k ≤ versions_at c store.versions) (λ v h. h.1) (standing_at c store.versions) (numbered_within (standing_at c store.versions) numbered_here))
+
+      -- at most as many operations are free as there are versions
+      is_there : (n : ℕ) (ask : Option Ask) (x : Answer) → free_answer store xs st.cursor n W ask ≡ Some x → suc n ≤ versions_at c store.versions
+      is_there n (Some (k.Op (o.Write key value))) x e = at (has_version key st.cursor (suc n) store) refl e
+        where
+          at : (t : Bool) → has_version key st.cursor (suc n) store ≡ t → cond t (Some a.Done) None ≡ Some x → suc n ≤ versions_at c store.versions
+          at true f e = version_within key c (suc n) (versions_at c store.versions) store.versions within (ap (λ c. is_some (version key c (suc n) store.versions)) (sym cursor) ∙ f)
+          at false f e = cc
+      is_there n _ x e = cc
+
+      frees_most : (n : ℕ) → length (on fs store xs p st n) ≡ n + length st.answers → n ≤ versions_at c store.versions
+      frees_most zero long = omega arith
+      frees_most (suc n) long =
+          let next : IsNext fs store xs p st n = next_decided fs store xs p st n long in
+          is_there n (asked_at fs p st (on fs store xs p st n)) next.answer (ap (λ m. free_answer store xs st.cursor n m (asked_at fs p st (on fs store xs p st n))) (sym mode) ∙ next.free)
+
+      -- where the next operation is no write whose version is there, they are all free operations
+      pub all_free : (free : ℕ) (ask : Ask) → length (on fs store xs p st free) ≡ free + length st.answers → asked_at fs p st (on fs store xs p st free) ≡ Some ask
+          → ((key : List ℕ) (value : Value) → ask ≡ k.Op (o.Write key value) → version key st.cursor (suc free) store.versions ≡ None) → free ≡ versions_at st.cursor store.versions
+      all_free free ask long asked absent =
+          ap (λ n. n) (⊎_elim (λ e. e) (λ cases. ⊎_elim (λ lt. absurd (never lt)) (λ gt. absurd (let le = frees_most free long in let no_way : ⊥ = omega (arith, le, gt) in no_way)) cases) (cases_order free (versions_at c store.versions)))
+          ∙ ap (λ c. versions_at c store.versions) (sym cursor)
+        where
+          never : free < versions_at c store.versions → ⊥
+          never lt =
+              let u = version_of free (standing_at c store.versions) lt in
+              let are = next_at fs store xs p st u.v u.rest (standing_at c store.versions) u.tail next_writes in
+              let found : version u.v.key c u.v.k store.versions ≡ Some u.v.value = found_version c u.v u.rest store.versions u.tail (at_of c (λ w. w.k ≡ u.v.k → w ≡ u.v) store.versions (numbered_once u.v u.rest (standing_at c store.versions) u.tail numbered_here)) in
+              let asks_write : asked_at fs p st (on fs store xs p st free) ≡ Some (k.Op (o.Write u.v.key u.v.value)) = subst (λ n. asked_at fs p st (on fs store xs p st n) ≡ Some (k.Op (o.Write u.v.key u.v.value))) u.long are.1 in
+              let same : ask ≡ k.Op (o.Write u.v.key u.v.value) = (let e : Some ask ≡ Some (k.Op (o.Write u.v.key u.v.value)) = sym asked ∙ asks_write in cc) in
+              let none : version u.v.key st.cursor (suc free) store.versions ≡ None = absent u.v.key u.v.value same in
+              let number : u.v.k ≡ suc free = are.0 ∙ ap suc u.long in
+              let no_way : None ≡ Some u.v.value = sym none ∙ (λ i. version u.v.key (cursor i) (sym number i) store.versions) ∙ found in cc
