@@ -33,3 +33,4 @@ pub mod Scripts
 pub mod OpenTransactions
 pub mod Cursors
 pub mod Recorded
+pub mod Acting
