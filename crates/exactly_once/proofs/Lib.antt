@@ -34,3 +34,4 @@ pub mod OpenTransactions
 pub mod Cursors
 pub mod Recorded
 pub mod Acting
+pub mod Sends
