@@ -35,3 +35,4 @@ pub mod Cursors
 pub mod Recorded
 pub mod Acting
 pub mod Sends
+pub mod Views
