@@ -36,3 +36,4 @@ pub mod Recorded
 pub mod Acting
 pub mod Sends
 pub mod Views
+pub mod Adopts
