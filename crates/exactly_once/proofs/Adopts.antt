@@ -91,17 +91,17 @@ module _ (setup : Setup) (fs : List Function) (w : World) (holds : Holds setup f
       abbrev st : Point
       st = stands setup fs store a.path behind
 
-      same : st ≡ at_point setup fs w holds a
+      pub same : st ≡ at_point setup fs w holds a
       same = point_same setup fs store n now (live_under w.log) holds.sound.fit a.path tags pos a.place x r a.cursor f.place
 
       -- what it has answered is what its invocation has, up to this record's operation
-      so_far : more fs store behind a.path st (frees_to r.index st) ≡ a.answers
+      pub so_far : more fs store behind a.path st (frees_to r.index st) ≡ a.answers
       so_far =
           ap (more fs store behind a.path st) (let e : frees_to r.index st ≡ f.free = (let d = f.decided in let s = ap (λ (st : Point). length st.answers) same in omega (arith, d, s, index)) in e)
           ∙ more_same setup fs store n now (live_under w.log) holds.sound.fit a.path tags pos a.place x r a.cursor f.place f.free
           ∙ sym f.answers
 
-      adopt_follows :
+      pub adopt_follows :
           (fences : List Raised) (body : Body) → x.holds ≡ body → (answer : Answer) (begun : Option ℕ)
           → stepped setup fs store behind a.path x.seq body r.index st ≡ operated fs store behind a.path x.seq body r.index st
           → own_answer store behind x.seq body ≡ Some answer → transaction_behind x.seq body a.begun ≡ begun → AreFenced fences (marks a.path (x ∷ behind))
@@ -139,13 +139,13 @@ module _ (setup : Setup) (fs : List Function) (w : World) (holds : Holds setup f
           }
 
       -- marks of a record that is no marker
-      fenced_there : (body : Body) → x.holds ≡ body → ((others : List Raised) → marks_by a.path x.seq body others ≡ others) → AreFenced w.store.fences (marks a.path (x ∷ behind))
+      pub fenced_there : (body : Body) → x.holds ≡ body → ((others : List Raised) → marks_by a.path x.seq body others ≡ others) → AreFenced w.store.fences (marks a.path (x ∷ behind))
       fenced_there body holds_is none =
           subst (AreFenced w.store.fences)
           (sym (ap (λ body. marks_by a.path x.seq body (marks a.path behind)) holds_is ∙ none (marks a.path behind)
           ∙ marks_same setup fs store n now (live_under w.log) holds.sound.fit a.path tags pos a.place x r a.cursor f.place)) f.fenced
 
-      plain_right :
+      pub plain_right :
           (body : Body) → x.holds ≡ body → (answer : Answer) (begun : Option ℕ) (line : StepLine)
           → stepped setup fs store behind a.path x.seq body r.index st ≡ operated fs store behind a.path x.seq body r.index st
           → own_answer store behind x.seq body ≡ Some answer → transaction_behind x.seq body a.begun ≡ begun → ((others : List Raised) → marks_by a.path x.seq body others ≡ others)
@@ -154,7 +154,7 @@ module _ (setup : Setup) (fs : List Function) (w : World) (holds : Holds setup f
           record { holds = holds; follows = adopt_follows w.store.fences body holds_is answer begun is_operated own transaction (fenced_there body holds_is none) }
 
       -- a marker
-      marker_right :
+      pub marker_right :
           (body : Body) → x.holds ≡ body → (keys : List (List ℕ)) (answer : Answer) (line : StepLine)
           → stepped setup fs store behind a.path x.seq body r.index st ≡ operated fs store behind a.path x.seq body r.index st
           → (ltb x.seq w.store.floor ≡ false → own_answer store behind x.seq body ≡ Some answer) → transaction_behind x.seq body a.begun ≡ a.begun
@@ -162,9 +162,6 @@ module _ (setup : Setup) (fs : List Function) (w : World) (holds : Holds setup f
           → MoveKeeps setup fs w (adopts_marker a w.store x.seq keys answer line)
       marker_right body holds_is keys answer line is_operated own transaction marked = at (ltb x.seq w.store.floor) refl
         where
-          fences : List Raised
-          fences = raised keys x.seq w.store.fences
-
           at : (t : Bool) → ltb x.seq w.store.floor ≡ t → MoveKeeps setup fs w (cond t (gone a w.store) (adopts_answer a (cond t w.store (record (w.store) { fences = raised keys x.seq w.store.fences })) x.seq answer line))
           at true e = gone_right
           at false e = record {
@@ -178,14 +175,14 @@ module _ (setup : Setup) (fs : List Function) (w : World) (holds : Holds setup f
           }
 
       -- the record's path is the attempt's
-      own_path : (q : List ℕ) (i : ℕ) → ◌≡◌ {A = Option (List ℕ × ℕ)} (Some (q, i)) (Some (a.path, r.index)) → bytes_eq a.path q ≡ true
+      pub own_path : (q : List ℕ) (i : ℕ) → ◌≡◌ {A = Option (List ℕ × ℕ)} (Some (q, i)) (Some (a.path, r.index)) → bytes_eq a.path q ≡ true
       own_path q i e = ap (bytes_eq a.path) (ap (λ (s : List ℕ × ℕ). s.0) (same_step (q, i) (a.path, r.index) e)) ∙ same_itself a.path
 
-      step_as : (body : Body) → x.holds ≡ body → ◌≡◌ {A = Option (List ℕ × ℕ)} (step_of body) (Some (a.path, r.index))
+      pub step_as : (body : Body) → x.holds ≡ body → ◌≡◌ {A = Option (List ℕ × ℕ)} (step_of body) (Some (a.path, r.index))
       step_as body e = ap step_of (sym e) ∙ r.step
 
-      seen_below : below x.seq view ≡ behind
+      pub seen_below : below x.seq view ≡ behind
       seen_below = ap (λ c. upto c view) (let e = r.seq_is in let d : x.seq - 1 ≡ r.m = omega (arith, e) in d) ∙ r.seen_below
 
-      fits_as : (body : Body) → x.holds ≡ body → Fits setup fs store behind body
+      pub fits_as : (body : Body) → x.holds ≡ body → Fits setup fs store behind body
       fits_as body e = subst (Fits setup fs store behind) e r.fits.0

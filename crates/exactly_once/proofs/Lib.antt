@@ -37,3 +37,4 @@ pub mod Acting
 pub mod Sends
 pub mod Views
 pub mod Adopts
+pub mod Takes
