@@ -38,3 +38,4 @@ pub mod Sends
 pub mod Views
 pub mod Adopts
 pub mod Takes
+pub mod OneValue
