@@ -39,3 +39,4 @@ pub mod Views
 pub mod Adopts
 pub mod Takes
 pub mod OneValue
+pub mod FreeSteps
