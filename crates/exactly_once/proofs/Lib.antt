@@ -40,3 +40,4 @@ pub mod Adopts
 pub mod Takes
 pub mod OneValue
 pub mod FreeSteps
+pub mod Operates
