@@ -41,3 +41,4 @@ pub mod Takes
 pub mod OneValue
 pub mod FreeSteps
 pub mod Operates
+pub mod Moves
