@@ -1,136 +1,185 @@
--- Where an invocation stands: the records of its Init and of its cursor.
-use Rattle.std.proofs.Common.{◌≡◌, ◌⊎◌, inl, inr, ⊎_elim, ℕ, suc, ◌<◌, ◌≤◌, Bool, true, false, cond, leb, List, [], ◌∷◌, length, Option, Some, None, refl, sym, ap, ◌∙◌, subst, arith}
-use Rattle.std.specs.Prelude.{bytes_eq, is_some, IsTrue}
-use Rattle.std.proofs.lemmas.Bool.{leb-true, le-leb}
+-- The record at an invocation's cursor, and the operations that come behind it: in mode W its versions are all its free
+-- operations, and it asks one logged operation at a place.
+use Rattle.std.proofs.Common.{◌≡◌, ◌⊎◌, ⊎_elim, ℕ, zero, suc, ◌+◌, ◌-◌, ◌<◌, ◌≤◌, Bool, true, false, cond, eqb, ◌&&◌, List, [], ◌∷◌, length, Option, Some, None, refl, sym, ap, ◌∙◌, subst, arith}
+use Rattle.std.specs.Prelude.{bytes_eq, is_some}
+use Rattle.std.proofs.lemmas.Bool.{and_parts, eqb-true, cases_order}
+use Rattle.lb_base.specs.declared.value.Value.{Value}
+use Rattle.lb_base.specs.declared.value.Mode.{Mode}
+use Rattle.lb_base.specs.declared.value.Mode.TheVariants.{R, W, T}
+use Rattle.lb_base.specs.declared.value.Outcome.{Outcome}
 use Rattle.boki_types.specs.declared.body.Body.{Body}
-use Rattle.boki_types.specs.declared.body.Body.TheVariants as b
+use Rattle.boki_types.specs.declared.operation.Op.TheVariants as o
+use Rattle.boki_types.specs.declared.operation.Ask.{Ask}
+use Rattle.boki_types.specs.declared.operation.Ask.TheVariants as k
+use Rattle.boki_types.specs.declared.operation.Answer.{Answer}
+use Rattle.boki_types.specs.declared.operation.Answer.TheVariants as a
 use Rattle.boki_types.specs.declared.plan.Setup.{Setup}
 use Rattle.boki_types.specs.declared.program.Function.{Function}
-use Rattle.boki_model.specs.Live.{Live, upto}
+use Rattle.boki_model.specs.Live.{Live}
 use Rattle.boki_model.specs.Bodies.{step_of}
-use Rattle.boki_model.specs.Modes.{result_of, mode_behind}
-use Rattle.boki_model.specs.Writes.{Store}
-use Rattle.boki_machine.specs.Decided.{Point, unknown}
-use Rattle.exactly_once.specs.Sound.{AllFit}
-use Rattle.exactly_once.specs.Exclusion.{IsEnded}
-use Rattle.exactly_once.proofs.Tails.{Tail, here, there, tail_cases}
-use Rattle.exactly_once.proofs.Lives.{Under, tail_within, tail_below}
-use Rattle.exactly_once.proofs.Points.{stands, Does, does, apart, began, operates, ends, unbegun, result_is}
+use Rattle.boki_model.specs.Writes.{Store, Version, Raised, version, versions_at, has_version}
+use Rattle.boki_machine.specs.Decided.{Point, asked_at, free_answer, more}
+use Rattle.exactly_once.specs.Sound.{Reaches, Asks, AreNextWrites, MayStand, StandAt, frees_to, standing_at, AllFit}
+use Rattle.exactly_once.specs.Invariant.{MayLog, Logs}
+use Rattle.exactly_once.proofs.Tails.{Tail, here, there, shorter}
+use Rattle.exactly_once.proofs.Each.{each_weaker}
+use Rattle.exactly_once.proofs.Lives.{Under}
+use Rattle.exactly_once.proofs.Positions.{Numbered, numbered_within, numbered_once, At, at_of, found_version}
+use Rattle.exactly_once.proofs.Points.{stands, Does, does, apart, began, operates, ends, cursor_within}
+use Rattle.exactly_once.proofs.Frees.{on, IsNext, next_decided, long_reaches, index_is, is_read, IsRead, reads, reads_all, none_in_T}
+use Rattle.exactly_once.proofs.FreeTurns.{stand_numbered}
 
--- Of two parts of a history, one lies behind the other.
-pub compare_tails : {A : Type 0} (xs ys zs : List A) → Tail xs zs → Tail ys zs → Tail xs ys ⊎ Tail ys xs
-compare_tails xs ys zs here t = inr t
-compare_tails xs ys (z ∷ zs) (there s) here = inl (there s)
-compare_tails xs ys (z ∷ zs) (there s) (there t) = compare_tails xs ys zs s t
+-- What is decided so far, was decided before.
 
-pub upto_tail : (c : ℕ) (xs : List (Live Body)) → Tail (upto c xs) xs
-upto_tail c [] = here
-upto_tail c (x ∷ xs) = elim (leb x.seq c) as (λ t. Tail (cond t (x ∷ xs) (upto c xs)) (x ∷ xs)) [ true ↦ here | false ↦ there (upto_tail c xs) ]
+module _ (fs : List Function) (store : Store) (xs : List (Live Body)) (p : List ℕ) (st : Point) where
+  long_before : (d n m : ℕ) → m ≡ d + n → length (on fs store xs p st m) ≡ m + length st.answers → length (on fs store xs p st n) ≡ n + length st.answers
+  long_before zero n m e long = let same : m ≡ n = omega (arith, e) in subst (λ n. length (on fs store xs p st n) ≡ n + length st.answers) same long
+  long_before (suc d) n m e long =
+      let same : m ≡ suc (d + n) = omega (arith, e) in
+      let next : IsNext fs store xs p st (d + n) = next_decided fs store xs p st (d + n) (subst (λ m. length (on fs store xs p st m) ≡ m + length st.answers) same long) in
+      long_before d n (d + n) refl next.before
 
-pub under_at : (v : Live Body) (vs : List (Live Body)) (m : ℕ) (ws : List (Live Body)) → Under m ws → Tail (v ∷ vs) ws → Under m (v ∷ vs)
-under_at v vs m ws under here = under
-under_at v vs m (w ∷ ws) under (there t) = let u = under_at v vs under.0 ws under.3 t in (u.0, u.1, (let lt = u.2 in let l = under.2 in omega (arith, lt, l)), u.3)
+  -- of two numbers of decided operations, behind the lesser one a free operation is decided
+  free_between : (n m : ℕ) → n < m → length (on fs store xs p st m) ≡ m + length st.answers → IsNext fs store xs p st n
+  free_between n m lt long = next_decided fs store xs p st n (long_before (m - suc n) (suc n) m (omega (arith, lt)) long)
 
--- one record at a seqnum
-pub one_record : (x y : Live Body) (xs ys : List (Live Body)) (n : ℕ) (zs : List (Live Body)) → Under n zs → Tail (x ∷ xs) zs → Tail (y ∷ ys) zs → x.seq ≡ y.seq → x ∷ xs ≡ y ∷ ys
-one_record x y xs ys n zs under s t same = at (compare_tails (x ∷ xs) (y ∷ ys) zs s t)
+  -- where a read or an operation of mode T is free, it isn't logged
+  no_free : (fences : List Raised) (n : ℕ) (ask : Ask) → (st.mode ≡ W → ⊥) → asked_at fs p st (on fs store xs p st n) ≡ Some ask → MayLog fences st.mode st.cursor ask → IsNext fs store xs p st n → ⊥
+  no_free fences n ask not_W asked may next = at st.mode refl may next.free
+    where
+      at : (mode : Mode) → st.mode ≡ mode → MayLog fences mode st.cursor ask → free_answer store xs st.cursor n mode (asked_at fs p st (on fs store xs p st n)) ≡ Some next.answer → ⊥
+      at W e may free = not_W e
+      at T e may free = let no_way : None ≡ Some next.answer = free in cc
+      at R e may free = by_read (is_read store xs st.cursor n (asked_at fs p st (on fs store xs p st n)) next.answer free)
+        where
+          by_read : IsRead store xs st.cursor (asked_at fs p st (on fs store xs p st n)) next.answer → ⊥
+          by_read (reads key is answer) = let same : ask ≡ k.Op (o.Read key) = (let e : Some ask ≡ Some (k.Op (o.Read key)) = sym asked ∙ is in cc) in subst (MayLog fences R st.cursor) same may
+          by_read (reads_all keys is answer) = let same : ask ≡ k.Op (o.ReadGroup keys) = (let e : Some ask ≡ Some (k.Op (o.ReadGroup keys)) = sym asked ∙ is in cc) in subst (MayLog fences R st.cursor) same may
+
+  -- one logged operation, or end, at a place
+  module _ (fences : List Raised) (i j : ℕ) (one two : Ask) (logs : Logs fs store fences xs p st i one) (others : Logs fs store fences xs p st j two) where
+    same_frees : frees_to i st ≡ frees_to j st
+    same_frees = at st.mode refl
+      where
+        unless : (st.mode ≡ W → ⊥) → frees_to i st ≡ frees_to j st
+        unless not_W =
+            ⊎_elim (λ e. e)
+            (λ c. ⊎_elim
+            (λ lt. absurd (no_free fences (frees_to i st) one not_W logs.asks.asked logs.may_log (free_between (frees_to i st) (frees_to j st) lt (long_reaches fs store xs p st j others.asks.reaches))))
+            (λ gt. absurd (no_free fences (frees_to j st) two not_W others.asks.asked others.may_log (free_between (frees_to j st) (frees_to i st) gt (long_reaches fs store xs p st i logs.asks.reaches)))) c)
+            (cases_order (frees_to i st) (frees_to j st))
+
+        at : (mode : Mode) → st.mode ≡ mode → frees_to i st ≡ frees_to j st
+        at W e = logs.asks.reaches.all_versions e ∙ sym (others.asks.reaches.all_versions e)
+        at R e = unless (λ f. let no_way : R ≡ W = sym e ∙ f in cc)
+        at T e = unless (λ f. let no_way : T ≡ W = sym e ∙ f in cc)
+
+    pub same_ask : one ≡ two
+    same_ask =
+        let e : Some one ≡ Some two = sym logs.asks.asked ∙ ap (λ n. asked_at fs p st (on fs store xs p st n)) same_frees ∙ others.asks.asked in cc
+
+-- The record at the cursor.
+
+-- a version that is found stands at its cursor
+version_within : (key : List ℕ) (c j most : ℕ) (vs : List Version) → At c (λ v. v.k ≤ most) vs → is_some (version key c j vs) ≡ true → j ≤ most
+version_within key c j most [] each found = let no_way : false ≡ true = found in cc
+version_within key c j most (v ∷ vs) each found = at (version_within key c j most vs each.1) (bytes_eq key v.key && eqb c v.cursor && eqb j v.k) refl found
   where
-    at : Tail (x ∷ xs) (y ∷ ys) ⊎ Tail (y ∷ ys) (x ∷ xs) → x ∷ xs ≡ y ∷ ys
-    at (inl r) = ⊎_elim (λ e. e) (λ r. absurd (let lt = tail_below n x y xs ys (under_at y ys n zs under t) r in let h : ⊥ = omega (arith, lt, same) in h)) (tail_cases r)
-    at (inr r) = ⊎_elim (λ e. sym e) (λ r. absurd (let lt = tail_below n y x ys xs (under_at x xs n zs under s) r in let h : ⊥ = omega (arith, lt, same) in h)) (tail_cases r)
+    at : (is_some (version key c j vs) ≡ true → j ≤ most) → (t : Bool) → (bytes_eq key v.key && eqb c v.cursor && eqb j v.k) ≡ t → is_some (cond t (Some v.value) (version key c j vs)) ≡ true → j ≤ most
+    at ih true e found =
+        let parts = and_parts (bytes_eq key v.key && eqb c v.cursor) (eqb j v.k) e in
+        let le : v.k ≤ most = each.0 (and_parts (bytes_eq key v.key) (eqb c v.cursor) parts.0).1 in
+        let same : j ≡ v.k = eqb-true j v.k parts.1 in omega (arith, le, same)
+    at ih false e found = ih found
 
--- the records up to the seqnum of one of them end with it
-leb-self : (n : ℕ) → leb n n ≡ true
-leb-self n = le-leb n n (omega arith)
+-- the version of a number
+record IsVersion (n : ℕ) (vs : List Version) : Type 0 where
+  pub v : Version
+  pub rest : List Version
+  pub tail : Tail (v ∷ rest) vs
+  pub long : length rest ≡ n
 
-pub not_leb : (m n : ℕ) → n < m → leb m n ≡ false
-not_leb m n lt = at (leb m n) refl
-  where
-    at : (b : Bool) → leb m n ≡ b → b ≡ false
-    at false e = refl
-    at true e = absurd (let le = leb-true m n e in let h : ⊥ = omega (arith, le, lt) in h)
+version_of : (n : ℕ) (vs : List Version) → n < length vs → IsVersion n vs
+version_of n [] lt = absurd (let no_way : ⊥ = omega (arith, lt) in no_way)
+version_of n (v ∷ vs) lt = ⊎_elim (λ e. record { v = v; rest = vs; tail = here; long = e }) (λ c. ⊎_elim (λ less. absurd (let no_way : ⊥ = omega (arith, lt, less) in no_way)) (λ more. let found = version_of n vs more in record { v = found.v; rest = found.rest; tail = there found.tail; long = found.long }) c) (cases_order (length vs) n)
 
-pub upto_at : (x : Live Body) (xs : List (Live Body)) (n : ℕ) (zs : List (Live Body)) → Under n zs → Tail (x ∷ xs) zs → upto x.seq zs ≡ x ∷ xs
-upto_at x xs n zs under here = ap (λ b. cond b (x ∷ xs) (upto x.seq xs)) (leb-self x.seq)
-upto_at x xs n (z ∷ zs) under (there t) =
-    let lt = tail_below n x z xs zs under t in
-    ap (λ b. cond b (z ∷ zs) (upto x.seq zs)) (not_leb z.seq x.seq lt) ∙ upto_at x xs under.0 zs under.3 t
+next_at : (fs : List Function) (store : Store) (xs : List (Live Body)) (p : List ℕ) (st : Point) (v : Version) (rest vs : List Version) → Tail (v ∷ rest) vs → AreNextWrites fs store xs p st vs → AreNextWrites fs store xs p st (v ∷ rest)
+next_at fs store xs p st v rest vs here are = are
+next_at fs store xs p st v rest (u ∷ vs) (there t) are = next_at fs store xs p st v rest vs t are.2
 
-pub fit_tail : (setup : Setup) (fs : List Function) (store : Store) (xs ys : List (Live Body)) → Tail xs ys → AllFit setup fs store ys → AllFit setup fs store xs
-fit_tail setup fs store xs ys here fit = fit
-fit_tail setup fs store xs (y ∷ ys) (there t) fit = fit_tail setup fs store xs ys t fit.2
-
-module _ (setup : Setup) (fs : List Function) (store : Store) (q : List ℕ) where
-  -- the record at its cursor is its own
-  pub record StandsOn (xs : List (Live Body)) : Type 0 where
-    pub on : Live Body
-    pub behind : List (Live Body)
-    pub tail : Tail (on ∷ behind) xs
+module _ (setup : Setup) (fs : List Function) (store : Store) (p : List ℕ) (c : ℕ) where
+  pub record IsHead (xs : List (Live Body)) : Type 0 where
+    pub x : Live Body
+    pub rest : List (Live Body)
+    pub is : xs ≡ x ∷ rest
+    pub seq_is : x.seq ≡ c
     pub index : ℕ
-    pub step : step_of on.holds ≡ Some (q, index)
-    pub seq_is : on.seq ≡ (stands setup fs store q xs).cursor
-    pub same : stands setup fs store q xs ≡ stands setup fs store q (on ∷ behind)
+    pub step : ◌≡◌ {A = Option (List ℕ × ℕ)} (step_of x.holds) (Some (p, index))
 
-  stands_here : (x : Live Body) (xs : List (Live Body)) (i : ℕ) → step_of x.holds ≡ Some (q, i) → x.seq ≡ (stands setup fs store q (x ∷ xs)).cursor → StandsOn (x ∷ xs)
-  stands_here x xs i step seq = record { on = x; behind = xs; tail = here; index = i; step = step; seq_is = seq; same = refl }
-
-  pub stands_on : (xs : List (Live Body)) → AllFit setup fs store xs → (stands setup fs store q xs).begun ≡ true → StandsOn xs
-  stands_on [] fit begun = cc
-  stands_on (x ∷ xs) fit begun = at (stands_on xs fit.2) (stands setup fs store q (x ∷ xs)) refl begun (does setup fs store x xs q fit.0)
+  pub head : (xs : List (Live Body)) → Under c xs → AllFit setup fs store xs → (stands setup fs store p xs).begun ≡ true → (stands setup fs store p xs).cursor ≡ c → IsHead xs
+  head [] under fit begun cursor = let no_way : false ≡ true = begun in cc
+  head (x ∷ xs) under fit begun cursor = at (stands setup fs store p (x ∷ xs)) cursor (does setup fs store x xs p fit.0)
     where
-      at : ((stands setup fs store q xs).begun ≡ true → StandsOn xs) → (next : Point) → stands setup fs store q (x ∷ xs) ≡ next → next.begun ≡ true → Does setup fs store x.seq x.holds xs q next → StandsOn (x ∷ xs)
-      at ih next e begun (apart a f is) =
-          let was = ih (ap (λ (p : Point). p.begun) (sym is) ∙ begun) in
-          record { on = was.on; behind = was.behind; tail = there was.tail; index = was.index; step = was.step; seq_is = was.seq_is ∙ ap (λ (p : Point). p.cursor) (sym is ∙ sym e); same = e ∙ is ∙ was.same }
-      at ih next e begun (began body may is) = stands_here x xs 1 (ap step_of body) (ap (λ (p : Point). p.cursor) (sym is ∙ sym e))
-      at ih next e begun (operates i step f r is) = stands_here x xs i step (ap (λ (p : Point). p.cursor) (sym is ∙ sym e))
-      at ih next e begun (ends i o body a is) = stands_here x xs i (ap step_of body) (ap (λ (p : Point). p.cursor) (sym is ∙ sym e))
+      at : (next : Point) → next.cursor ≡ c → Does setup fs store x.seq x.holds xs p next → IsHead (x ∷ xs)
+      at next cursor (apart other finish is) =
+          absurd (let le = cursor_within setup fs store under.0 xs p under.3 fit.2 in let e : (stands setup fs store p xs).cursor ≡ c = ap (λ (st : Point). st.cursor) (sym is) ∙ cursor in let no_way : ⊥ = omega (arith, le, e, under.2) in no_way)
+      at next cursor (began body may is) = record { x = x; rest = xs; is = refl; seq_is = ap (λ (st : Point). st.cursor) (sym is) ∙ cursor; index = 1; step = ap step_of body }
+      at next cursor (operates i step finish reaches is) = record { x = x; rest = xs; is = refl; seq_is = ap (λ (st : Point). st.cursor) (sym is) ∙ cursor; index = i; step = step }
+      at next cursor (ends i outcome body asks is) = record { x = x; rest = xs; is = refl; seq_is = ap (λ (st : Point). st.cursor) (sym is) ∙ cursor; index = i; step = ap step_of body }
 
-  -- it has an Init, which gave it its mode
-  pub record HasInit (xs : List (Live Body)) (st : Point) : Type 0 where
-    pub init : Live Body
-    pub behind : List (Live Body)
-    pub tail : Tail (init ∷ behind) xs
-    pub holds_is : init.holds ≡ b.Init q
-    pub mode_is : mode_behind setup.mode behind ≡ st.mode
-    pub low : init.seq ≤ st.cursor
+  module _ (xs : List (Live Body)) (under : Under c xs) (fit : AllFit setup fs store xs) (begun : (stands setup fs store p xs).begun ≡ true) (unended : (stands setup fs store p xs).result ≡ None) (cursor : (stands setup fs store p xs).cursor ≡ c) where
+    abbrev st : Point
+    st = stands setup fs store p xs
 
-  pub has_init : (n : ℕ) (xs : List (Live Body)) → Under n xs → AllFit setup fs store xs → (stands setup fs store q xs).begun ≡ true → HasInit xs (stands setup fs store q xs)
-  has_init n [] under fit begun = cc
-  has_init n (x ∷ xs) under fit begun = at (has_init under.0 xs under.3 fit.2) (stands setup fs store q (x ∷ xs)) begun (does setup fs store x xs q fit.0)
-    where
-      was : (next : Point) → next.mode ≡ (stands setup fs store q xs).mode → (stands setup fs store q xs).cursor ≤ next.cursor → HasInit xs (stands setup fs store q xs) → HasInit (x ∷ xs) next
-      was next mode le h = record { init = h.init; behind = h.behind; tail = there h.tail; holds_is = h.holds_is; mode_is = h.mode_is ∙ sym mode; low = let l = h.low in omega (arith, l, le) }
+    stand_here : MayStand fs store xs p st None st.mode (standing_at c store.versions)
+    stand_here =
+        let h : IsHead xs = head xs under fit begun cursor in
+        let fit_there : AllFit setup fs store (h.x ∷ h.rest) = subst (AllFit setup fs store) h.is fit in
+        let one : StandAt setup fs store (h.x ∷ h.rest) (Some (p, h.index)) (standing_at h.x.seq store.versions) = subst (λ s. StandAt setup fs store (h.x ∷ h.rest) s (standing_at h.x.seq store.versions)) h.step fit_there.1 in
+        let two : StandAt setup fs store xs (Some (p, h.index)) (standing_at h.x.seq store.versions) = subst (λ xs. StandAt setup fs store xs (Some (p, h.index)) (standing_at h.x.seq store.versions)) (sym h.is) one in
+        let three : MayStand fs store xs p st st.result st.mode (standing_at c store.versions) = subst (λ c. MayStand fs store xs p st st.result st.mode (standing_at c store.versions)) h.seq_is two in
+        subst (λ r. MayStand fs store xs p st r st.mode (standing_at c store.versions)) unended three
 
-      own : (next : Point) → next.mode ≡ (stands setup fs store q xs).mode → next.cursor ≡ x.seq → HasInit xs (stands setup fs store q xs) → HasInit (x ∷ xs) next
-      own next mode cursor h = record { init = h.init; behind = h.behind; tail = there h.tail; holds_is = h.holds_is; mode_is = h.mode_is ∙ sym mode; low = let lt = tail_below n h.init x h.behind xs under h.tail in omega (arith, lt, cursor) }
+    numbered_here : Numbered (standing_at c store.versions)
+    numbered_here = stand_numbered fs store xs p st None st.mode (standing_at c store.versions) stand_here
 
-      at : ((stands setup fs store q xs).begun ≡ true → HasInit xs (stands setup fs store q xs)) → (next : Point) → next.begun ≡ true → Does setup fs store x.seq x.holds xs q next → HasInit (x ∷ xs) next
-      at ih next begun (apart a f is) =
-          was next (ap (λ (p : Point). p.mode) is) (subst (λ (p : Point). (stands setup fs store q xs).cursor ≤ p.cursor) (sym is) (omega arith)) (ih (ap (λ (p : Point). p.begun) (sym is) ∙ begun))
-      at ih next begun (began body may is) = record {
-        init = x;
-        behind = xs;
-        tail = here;
-        holds_is = body;
-        mode_is = ap (λ (p : Point). p.mode) (sym is);
-        low = let e : next.cursor ≡ x.seq = ap (λ (p : Point). p.cursor) is in omega (arith, e);
-      }
-      at ih next begun (operates i step f r is) = own next (ap (λ (p : Point). p.mode) is) (ap (λ (p : Point). p.cursor) is) (ih r.begun)
-      at ih next begun (ends i o body a is) = own next (ap (λ (p : Point). p.mode) is) (ap (λ (p : Point). p.cursor) is) (ih a.reaches.begun)
+    module _ (mode : st.mode ≡ W) where
+      next_writes : AreNextWrites fs store xs p st (standing_at c store.versions)
+      next_writes = subst (λ m. MayStand fs store xs p st None m (standing_at c store.versions)) mode stand_here
 
-  -- one that has ended stays where it is
-  pub ended_stays : (ys xs : List (Live Body)) → Tail ys xs → AllFit setup fs store xs → IsEnded q ys → stands setup fs store q xs ≡ stands setup fs store q ys
-  ended_stays ys xs here fit ended = refl
-  ended_stays ys (x ∷ xs) (there t) fit ended = at (ended_stays ys xs t fit.2 ended) (stands setup fs store q (x ∷ xs)) (does setup fs store x xs q fit.0)
-    where
-      over : stands setup fs store q xs ≡ stands setup fs store q ys → (stands setup fs store q xs).result ≡ None → ⊥
-      over same none =
-          let r : result_of q ys ≡ None = sym (result_is setup fs store ys q (fit_tail setup fs store ys xs t fit.2)) ∙ ap (λ (p : Point). p.result) (sym same) ∙ none in
-          let no_way : false ≡ true = ap is_some (sym r) ∙ ended in cc
+      within : At c (λ v. v.k ≤ versions_at c store.versions) store.versions
+      within = at_of c (λ v. v.k ≤ versions_at c store.versions) store.versions
+          (each_weaker (λ (v : Version). (0 < v.k) × (v.k ≤ versions_at c store.versions)) (λ (v : Version). v.k ≤ versions_at c store.versions) (λ v h. h.1) (standing_at c store.versions) (numbered_within (standing_at c store.versions) numbered_here))
 
-      at : stands setup fs store q xs ≡ stands setup fs store q ys → (next : Point) → Does setup fs store x.seq x.holds xs q next → next ≡ stands setup fs store q ys
-      at ih next (apart a f is) = is ∙ ih
-      at ih next (began body may is) = absurd (over ih (ap (λ (p : Point). p.result) (unbegun setup fs store xs q fit.2 may.new)))
-      at ih next (operates i step f r is) = absurd (over ih r.unended)
-      at ih next (ends i o body a is) = absurd (over ih a.reaches.unended)
+      -- at most as many operations are free as there are versions
+      is_there : (n : ℕ) (ask : Option Ask) (x : Answer) → free_answer store xs st.cursor n W ask ≡ Some x → suc n ≤ versions_at c store.versions
+      is_there n (Some (k.Op (o.Write key value))) x e = at (has_version key st.cursor (suc n) store) refl e
+        where
+          at : (t : Bool) → has_version key st.cursor (suc n) store ≡ t → cond t (Some a.Done) None ≡ Some x → suc n ≤ versions_at c store.versions
+          at true f e = version_within key c (suc n) (versions_at c store.versions) store.versions within (ap (λ c. is_some (version key c (suc n) store.versions)) (sym cursor) ∙ f)
+          at false f e = cc
+      is_there n _ x e = cc
+
+      frees_most : (n : ℕ) → length (on fs store xs p st n) ≡ n + length st.answers → n ≤ versions_at c store.versions
+      frees_most zero long = omega arith
+      frees_most (suc n) long =
+          let next : IsNext fs store xs p st n = next_decided fs store xs p st n long in
+          is_there n (asked_at fs p st (on fs store xs p st n)) next.answer (ap (λ m. free_answer store xs st.cursor n m (asked_at fs p st (on fs store xs p st n))) (sym mode) ∙ next.free)
+
+      -- where the next operation is no write whose version is there, they are all free operations
+      pub all_free : (free : ℕ) (ask : Ask) → length (on fs store xs p st free) ≡ free + length st.answers → asked_at fs p st (on fs store xs p st free) ≡ Some ask
+          → ((key : List ℕ) (value : Value) → ask ≡ k.Op (o.Write key value) → version key st.cursor (suc free) store.versions ≡ None) → free ≡ versions_at st.cursor store.versions
+      all_free free ask long asked absent =
+          ap (λ n. n) (⊎_elim (λ e. e) (λ cases. ⊎_elim (λ lt. absurd (never lt)) (λ gt. absurd (let le = frees_most free long in let no_way : ⊥ = omega (arith, le, gt) in no_way)) cases) (cases_order free (versions_at c store.versions)))
+          ∙ ap (λ c. versions_at c store.versions) (sym cursor)
+        where
+          never : free < versions_at c store.versions → ⊥
+          never lt =
+              let u = version_of free (standing_at c store.versions) lt in
+              let are = next_at fs store xs p st u.v u.rest (standing_at c store.versions) u.tail next_writes in
+              let found : version u.v.key c u.v.k store.versions ≡ Some u.v.value = found_version c u.v u.rest store.versions u.tail (at_of c (λ w. w.k ≡ u.v.k → w ≡ u.v) store.versions (numbered_once u.v u.rest (standing_at c store.versions) u.tail numbered_here)) in
+              let asks_write : asked_at fs p st (on fs store xs p st free) ≡ Some (k.Op (o.Write u.v.key u.v.value)) = subst (λ n. asked_at fs p st (on fs store xs p st n) ≡ Some (k.Op (o.Write u.v.key u.v.value))) u.long are.1 in
+              let same : ask ≡ k.Op (o.Write u.v.key u.v.value) = (let e : Some ask ≡ Some (k.Op (o.Write u.v.key u.v.value)) = sym asked ∙ asks_write in cc) in
+              let none : version u.v.key st.cursor (suc free) store.versions ≡ None = absent u.v.key u.v.value same in
+              let number : u.v.k ≡ suc free = are.0 ∙ ap suc u.long in
+              let no_way : None ≡ Some u.v.value = sym none ∙ (λ i. version u.v.key (cursor i) (sym number i) store.versions) ∙ found in cc

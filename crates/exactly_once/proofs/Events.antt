@@ -61,6 +61,7 @@ module _ (setup : Setup) (fs : List Function) (store : Store) (fences : List Rai
     counts = f.counts;
     stored = f.stored;
     late = f.late;
+    stored_late = f.stored_late;
   }
 
   pub following_as : (n : ℕ) (now : List (Live Body)) (positions : List ℕ) (a : Attempt) (life : Life) (waiting : Bool) → IsSeen a.cursor (position_of positions a.engine) life → IsFollowing setup fs store fences n now positions a → IsFollowing setup fs store fences n now positions (record a { life = life; waiting = waiting })

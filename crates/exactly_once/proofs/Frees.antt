@@ -20,7 +20,7 @@ use Rattle.exactly_once.proofs.Positions.{last_behind}
 -- A record above the cursor changes no free answer.
 
 module _ (store : Store) (x : Live Body) (xs : List (Live Body)) where
-  last_older : (key : List ℕ) (c : ℕ) → c ≤ x.seq → last key c 0 store (x ∷ xs) ≡ last key c 0 store xs
+  pub last_older : (key : List ℕ) (c : ℕ) → c ≤ x.seq → last key c 0 store (x ∷ xs) ≡ last key c 0 store xs
   last_older key c le = last_behind store key c 0 x xs (not_below_zero x.seq 0 c le)
 
   values_older : (c : ℕ) (keys : List (List ℕ)) → c ≤ x.seq → values_below c 0 store (x ∷ xs) keys ≡ values_below c 0 store xs keys

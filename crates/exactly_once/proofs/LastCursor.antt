@@ -25,7 +25,7 @@ use Rattle.exactly_once.proofs.Maps.{same_key, same_itself}
 use Rattle.exactly_once.proofs.Exclusion.{tails_exclude, ended_later}
 use Rattle.exactly_once.proofs.Points.{stands, cursor_within, result_is}
 use Rattle.exactly_once.proofs.SamePlace.{IsSamePlace, same_point, skipped}
-use Rattle.exactly_once.proofs.Cursors.{compare_tails, upto_tail, under_at, not_leb, one_record, fit_tail, HasInit, has_init, ended_stays}
+use Rattle.exactly_once.proofs.Histories.{compare_tails, upto_tail, under_at, not_leb, one_record, fit_tail, HasInit, has_init, ended_stays}
 use Rattle.exactly_once.proofs.Origins.{IsLogged, Origin, origin}
 use Rattle.exactly_once.proofs.Writers.{IsWriter, its, its_mode, logs_apart}
 

@@ -66,6 +66,7 @@ module _ (fences fences' : List Raised) (grow : (key : List ℕ) → fence key f
       counts = f.counts;
       stored = f.stored;
       late = late_later a.path (point setup fs store a.path behind) a.answers f.free a.late f.late;
+      stored_late = f.stored_late;
     }
 
     -- the ordered list grows

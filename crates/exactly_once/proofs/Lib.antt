@@ -29,7 +29,7 @@ pub mod Opening
 pub mod Names
 pub mod NamesKeep
 pub mod Events
-pub mod Cursors
+pub mod Histories
 pub mod Origins
 pub mod Writers
 pub mod LastCursor
@@ -40,3 +40,16 @@ pub mod Shards
 pub mod Engines
 pub mod EventsKeep
 pub mod Exact
+pub mod Scripts
+pub mod OpenTransactions
+pub mod Cursors
+pub mod Recorded
+pub mod Acting
+pub mod Sends
+pub mod Views
+pub mod Adopts
+pub mod Takes
+pub mod OneValue
+pub mod FreeSteps
+pub mod Operates
+pub mod Moves

@@ -28,7 +28,7 @@ module _ {A : Type 0} where
   pub live_under : (log : List (Entry A)) → Under (length log) (live log)
   live_under log = falls_under (suc (length log)) (length log) (live log) refl (live_falls log)
 
-  upto_whole : (n p : ℕ) (xs : List (Live A)) → Under n xs → n ≤ p → upto p xs ≡ xs
+  pub upto_whole : (n p : ℕ) (xs : List (Live A)) → Under n xs → n ≤ p → upto p xs ≡ xs
   upto_whole n p xs under le = upto_all (suc n) p xs (under_falls n xs under) (omega (arith, le))
 
   -- the live record at a seqnum, and what lies behind it

@@ -86,6 +86,7 @@ module _ (s : Stored) (store : Store) (new : value_of s.name store.named ≡ Non
         counts = f.counts;
         stored = subst (λ st. KnowsStored fs then_store a.path st a.answers a.stored) (sym e) (stored_kept a.path old a.answers a.stored f.stored);
         late = subst (λ st. KnowsLate fs then_store fences a.path st a.answers f.free a.late) (sym e) (late_kept a.path old a.answers f.free a.late f.late);
+        stored_late = f.stored_late;
       }
 
   following_kept : (positions : List ℕ) (a : Attempt) → IsFollowing setup fs store fences n now positions a → IsFollowing setup fs then_store fences n now positions a

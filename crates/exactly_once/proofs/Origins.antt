@@ -26,7 +26,7 @@ use Rattle.exactly_once.proofs.Points.{stands}
 use Rattle.exactly_once.proofs.Steps.{in_order}
 use Rattle.exactly_once.proofs.SamePlace.{point_apart, place_is}
 use Rattle.exactly_once.proofs.Orders.{among_each}
-use Rattle.exactly_once.proofs.Cursors.{compare_tails, upto_tail, fit_tail}
+use Rattle.exactly_once.proofs.Histories.{compare_tails, upto_tail, fit_tail}
 
 -- The entry of a live record.
 

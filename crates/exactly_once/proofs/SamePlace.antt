@@ -32,7 +32,7 @@ marks_apart p seq (b.Read q i key) others e = rw e
 marks_apart p seq (b.ReadGroup q i keys) others e = rw e
 marks_apart p seq _ others e = refl
 
-steps_fewer : (p : List ℕ) (c : ℕ) (xs : List (Live Body)) → length (steps_of p (upto c xs)) ≤ length (steps_of p xs)
+pub steps_fewer : (p : List ℕ) (c : ℕ) (xs : List (Live Body)) → length (steps_of p (upto c xs)) ≤ length (steps_of p xs)
 steps_fewer p c [] = omega arith
 steps_fewer p c (x ∷ xs) = at (leb x.seq c) (steps_fewer p c xs) (is_step_of p (step_of x.holds)) refl
   where
@@ -95,7 +95,7 @@ module _ (setup : Setup) (fs : List Function) (store : Store) (p : List ℕ) (c 
   fit_upto [] fit = tt
   fit_upto (x ∷ xs) fit = elim (leb x.seq c) as (λ t. AllFit setup fs store (cond t (x ∷ xs) (upto c xs))) [ true ↦ fit | false ↦ fit_upto xs fit.2 ]
 
-  under_upto : (n : ℕ) (xs : List (Live Body)) → Under n xs → Under c (upto c xs)
+  pub under_upto : (n : ℕ) (xs : List (Live Body)) → Under n xs → Under c (upto c xs)
   under_upto n [] under = tt
   under_upto n (x ∷ xs) under = at (leb x.seq c) refl (under_upto under.0 xs under.3)
     where

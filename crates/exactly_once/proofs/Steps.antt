@@ -71,7 +71,7 @@ module _ (path : List ℕ) (ok : IsPath path) where
       let lt = ltb-true t.0 (2 ^ 56) parts.0 in
       (λ i. below t.0 (omega (arith, lt)) i || user_tags ts parts.1 i)
 
-  own_step : (body : Body) (tags : List Tag) → OwnTags body tags → has_paths body ≡ true → has_tag (step_tag path) tags ≡ is_step_of path (step_of body)
+  pub own_step : (body : Body) (tags : List Tag) → OwnTags body tags → has_paths body ≡ true → has_tag (step_tag path) tags ≡ is_step_of path (step_of body)
   own_step (b.User bytes) tags own paths = user_tags tags own
   own_step (b.Submit p f args) tags own paths = ap (has_tag (step_tag path)) own ∙ one_below (call_tag p) (call_tag_below p (and_parts _ _ paths).0)
   own_step (b.Init p) tags own paths = ap (has_tag (step_tag path)) own ∙ tagged_step p (tag_of 9 0 ∷ []) paths (one_above (tag_number 9 0) (omega arith))

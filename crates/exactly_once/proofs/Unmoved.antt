@@ -26,7 +26,7 @@ use Rattle.exactly_once.proofs.Lives.{Under, live_under}
 use Rattle.exactly_once.proofs.Maps.{same_key, same_itself}
 use Rattle.exactly_once.proofs.Points.{stands, Does, does, apart, began, operates, ends, cursor_within}
 use Rattle.exactly_once.proofs.SamePlace.{marks_apart}
-use Rattle.exactly_once.proofs.Cursors.{under_at, fit_tail}
+use Rattle.exactly_once.proofs.Histories.{under_at, fit_tail}
 use Rattle.exactly_once.proofs.Writers.{IsWriter, logs_apart, is_its}
 use Rattle.exactly_once.proofs.LastCursor.{none_above, no_later, reads_below}
 use Rattle.exactly_once.proofs.Puts.{marks_behind, IsSafe, IsUnhit, unhit_safe, asks_kept, NotInit, stepped_kept, frame, same_frame}

@@ -30,7 +30,7 @@ use Rattle.exactly_once.proofs.Lives.{live_under}
 use Rattle.exactly_once.proofs.Maps.{same_key, same_itself}
 use Rattle.exactly_once.proofs.Points.{stands, Does, does, apart, began, operates, ends}
 use Rattle.exactly_once.proofs.Orders.{among_each, stand_none}
-use Rattle.exactly_once.proofs.Cursors.{upto_tail, one_record, fit_tail}
+use Rattle.exactly_once.proofs.Histories.{upto_tail, one_record, fit_tail}
 use Rattle.exactly_once.proofs.Writers.{IsWriter, its, its_mode, behind_it, behind_is, stood, on_tail, on_seq, standing, next_writes, few_decided, as_many, asks_more, is_its, same_more_in_W}
 use Rattle.exactly_once.proofs.LastCursor.{reads_below}
 use Rattle.exactly_once.proofs.Puts.{IsSafe, more_kept, writes_kept}
@@ -244,6 +244,7 @@ module _ (setup : Setup) (fs : List Function) (w : World) (holds : Holds setup f
         counts = f.counts;
         stored = subst (λ st. KnowsStored fs New t.path st t.answers t.stored) (sym e) (stored_kept t.path st t.answers t.stored f.stored);
         late = subst (λ st. KnowsLate fs New Fences t.path st t.answers f.free t.late) (sym e) (late_kept t.path st t.answers f.free t.late f.late);
+        stored_late = f.stored_late;
       }
 
   following_kept : (t : Attempt) → IsFollowing setup fs Old Fences n Now w.positions t → IsFollowing setup fs New Fences n Now w.positions t

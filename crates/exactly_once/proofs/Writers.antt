@@ -33,7 +33,7 @@ use Rattle.exactly_once.proofs.Positions.{Numbered, numbered_within, numbered_on
 use Rattle.exactly_once.proofs.FreeTurns.{stand_numbered}
 use Rattle.exactly_once.proofs.Frees.{on, next_decided}
 use Rattle.exactly_once.proofs.Points.{stands}
-use Rattle.exactly_once.proofs.Cursors.{upto_tail, one_record, upto_at, fit_tail, StandsOn, stands_on}
+use Rattle.exactly_once.proofs.Histories.{upto_tail, one_record, upto_at, fit_tail, StandsOn, stands_on}
 
 -- Versions at a cursor.
 

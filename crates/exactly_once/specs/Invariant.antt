@@ -188,6 +188,8 @@ pub record Follows (setup : Setup) (fs : List Function) (store : Store) (fences 
   pub counts : Counts a.mode a.k free
   pub stored : KnowsStored fs store a.path (point setup fs store a.path behind) a.answers a.stored
   pub late : KnowsLate fs store fences a.path (point setup fs store a.path behind) a.answers free a.late
+  -- in mode W only a late write has its value stored
+  pub stored_late : a.stored ≡ true → a.mode ≡ W → a.late ≡ true
 
 abbrev pub position_of : List ℕ → ℕ → ℕ
 position_of positions engine = slice_index positions (engine - 1)
