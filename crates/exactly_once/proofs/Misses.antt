@@ -22,7 +22,7 @@ use Rattle.boki_model.specs.Live.{Live, upto}
 use Rattle.boki_model.specs.Bodies.{step_tag}
 use Rattle.boki_model.specs.Reads.{nth}
 use Rattle.boki_model.specs.Modes.{result_of}
-use Rattle.boki_model.specs.Writes.{Store, fence, has_version, put_at, name_if_new, after_fenced, raised}
+use Rattle.boki_model.specs.Writes.{fence, has_version, put_at, name_if_new, raised}
 use Rattle.boki_machine.specs.Attempt.{Attempt, call_of}
 use Rattle.boki_machine.specs.Step.{Missed, answers_to, asked_by, is_inline, name_for, nothing_missed, misses_marker, misses_record, misses_put, misses_store, misses_write, misses_asked, misses_at, misses_placed, misses_with, misses_if}
 use Rattle.exactly_once.specs.Invariant.{World, records, values, IsAmong, Holds}
