@@ -1,5 +1,5 @@
 -- An attempt that acts: its path, its engine's view, and the operation that it asks.
-use Rattle.std.proofs.Common.{◌≡◌, ⊎_elim, ℕ, zero, suc, ◌+◌, ◌-◌, ◌≤◌, Bool, true, false, cond, leb, eqb, ◌&&◌, List, [], ◌∷◌, length, Option, Some, None, refl, sym, ap, ◌∙◌, subst, arith}
+use Rattle.std.proofs.Common.{◌≡◌, ℕ, zero, suc, ◌-◌, ◌≤◌, Bool, true, false, cond, leb, List, [], ◌∷◌, length, Option, Some, None, refl, sym, ap, ◌∙◌, subst, arith}
 use Rattle.std.specs.Prelude.{bytes_eq, slice_index}
 use Rattle.std.specs.List.{AllByRecursion}
 use Rattle.std.proofs.lemmas.Bool.{and_parts, leb-true}
@@ -21,7 +21,7 @@ use Rattle.boki_model.specs.Live.{Entry, Live, meets, live, upto}
 use Rattle.boki_model.specs.Bodies.{child}
 use Rattle.boki_model.specs.Reads.{or_else}
 use Rattle.boki_model.specs.Modes.{result_of, finish_of}
-use Rattle.boki_model.specs.Writes.{Store, Raised, version}
+use Rattle.boki_model.specs.Writes.{Raised, version}
 use Rattle.boki_machine.specs.Attempt.{Attempt, call_in, call_of, next_index}
 use Rattle.boki_machine.specs.Decided.{Point, asked_at, more}
 use Rattle.boki_machine.specs.Step.{asked_by}

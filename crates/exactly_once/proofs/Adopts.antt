@@ -1,47 +1,37 @@
 -- An attempt adopts the record at its place: it stands then where the records up to that one put its invocation.
-use Rattle.std.proofs.Common.{◌≡◌, inl, inr, ℕ, suc, ◌+◌, ◌-◌, ◌≤◌, Bool, true, false, cond, ltb, List, [], ◌∷◌, length, Option, Some, None, refl, sym, ap, ◌∙◌, subst, arith}
-use Rattle.std.specs.Prelude.{bytes_eq, unwrap_or}
+use Rattle.std.proofs.Common.{◌≡◌, inr, ℕ, suc, ◌-◌, Bool, true, false, cond, ltb, List, ◌∷◌, length, Option, Some, refl, sym, ap, ◌∙◌, subst, arith}
+use Rattle.std.specs.Prelude.{bytes_eq}
 use Rattle.std.specs.List.{AllByRecursion}
 use Rattle.lb_base.specs.Path.{IsPath}
-use Rattle.lb_base.specs.declared.value.Value.{Value}
 use Rattle.lb_base.specs.declared.value.Mode.{Mode}
 use Rattle.lb_base.specs.declared.value.Mode.TheVariants.{R, W, T}
-use Rattle.lb_base.specs.declared.value.Outcome.{Outcome}
 use Rattle.boki_types.specs.declared.body.Body.{Body}
-use Rattle.boki_types.specs.declared.body.Body.TheVariants as b
 use Rattle.boki_types.specs.declared.line.Life.{Life}
 use Rattle.boki_types.specs.declared.line.Life.TheVariants.{Running, Stopped}
 use Rattle.boki_types.specs.declared.line.StepLine.{StepLine}
 use Rattle.boki_types.specs.declared.line.StepLine.TheVariants as l
-use Rattle.boki_types.specs.declared.log.Call.{Call}
 use Rattle.boki_types.specs.declared.operation.Answer.{Answer}
-use Rattle.boki_types.specs.declared.operation.Answer.TheVariants as a
 use Rattle.boki_types.specs.declared.plan.Setup.{Setup}
 use Rattle.boki_types.specs.declared.program.Function.{Function}
-use Rattle.boki_types.specs.Finding.{find}
 use Rattle.boki_model.specs.Live.{Live, upto}
-use Rattle.boki_model.specs.Bodies.{step_of, child}
-use Rattle.boki_model.specs.Modes.{result_of, mode_behind}
-use Rattle.boki_model.specs.Writes.{Store, Raised, raised, read_fenced}
-use Rattle.boki_model.specs.Folds.{queues, front, commits, succeeds, stored, values_of}
-use Rattle.boki_machine.specs.Attempt.{Attempt, Move, moves, adopts, answered_with, call_of, next_index}
-use Rattle.boki_machine.specs.Decided.{Point, more, and_answer, own_answer, joined, transaction_behind, stepped, operated}
-use Rattle.boki_machine.specs.Step.{seqnum, below, gone, pairs, or_none, read_all, adopts_answer, adopts_marker, adopts_join, is_committed, adopts_operation}
-use Rattle.exactly_once.specs.Sound.{MayJoin, Fits, frees_to, AllFit}
-use Rattle.exactly_once.specs.MicroSteps.{raises}
+use Rattle.boki_model.specs.Bodies.{step_of}
+use Rattle.boki_model.specs.Writes.{Store, Raised, raised}
+use Rattle.boki_machine.specs.Attempt.{Attempt, moves, adopts, answered_with, next_index}
+use Rattle.boki_machine.specs.Decided.{Point, more, and_answer, own_answer, transaction_behind, stepped, operated}
+use Rattle.boki_machine.specs.Step.{below, gone, adopts_answer, adopts_marker}
+use Rattle.exactly_once.specs.Sound.{Fits, frees_to}
 use Rattle.exactly_once.specs.Invariant.{World, records, values, marks, marks_by, marks_at, AreFenced, Counts, IsSeen, Follows, IsFollowing, IsAmong, Holds}
-use Rattle.exactly_once.specs.Moves.{seen_by, MoveKeeps}
-use Rattle.exactly_once.proofs.Lives.{Under, live_under}
+use Rattle.exactly_once.specs.Moves.{MoveKeeps}
+use Rattle.exactly_once.proofs.Lives.{live_under}
 use Rattle.exactly_once.proofs.Maps.{same_itself}
 use Rattle.exactly_once.proofs.Points.{stands}
 use Rattle.exactly_once.proofs.Operations.{stands_own}
 use Rattle.exactly_once.proofs.MicroSteps.{steps_keep}
-use Rattle.exactly_once.proofs.SamePlace.{under_upto}
 use Rattle.exactly_once.proofs.Events.{following_as}
 use Rattle.exactly_once.proofs.OpenTransactions.{same_step}
 use Rattle.exactly_once.proofs.Recorded.{IsTagged, all_tagged, IsRecorded, point_same, marks_same, more_same}
-use Rattle.exactly_once.proofs.Views.{read_value, read_values, committed_is, raised_marks}
-use Rattle.exactly_once.proofs.Acting.{result_upto, own_log, engine_at, within_log, following, up_to, at_point}
+use Rattle.exactly_once.proofs.Views.{raised_marks}
+use Rattle.exactly_once.proofs.Acting.{own_log, engine_at, within_log, following, up_to, at_point}
 
 pub no_frees : (mode : Mode) → Counts mode 0 0
 no_frees R = refl
@@ -119,7 +109,7 @@ module _ (setup : Setup) (fs : List Function) (w : World) (holds : Holds setup f
             within = let seen = r.seen in let all = within_log setup fs w holds a in omega (arith, seen, all);
             seen = subst (IsSeen x.seq pos) (sym running) r.seen;
             follows = inr (record {
-              begun = ap (λ (st : Point). st.begun) (is ∙ refl) ∙ ap (λ (st : Point). st.begun) same ∙ f.begun;
+              begun = ap (λ (st : Point). st.begun) is ∙ ap (λ (st : Point). st.begun) same ∙ f.begun;
               unended = ap (λ (st : Point). st.result) is ∙ ap (λ (st : Point). st.result) same ∙ f.unended;
               cursor = ap (λ (st : Point). st.cursor) is;
               place = ap (λ (st : Point). st.place) is ∙ ap (λ (st : Point). suc st.place) same ∙ ap suc f.place;

@@ -1,12 +1,11 @@
 -- The record at an invocation's cursor, and the operations that come behind it: in mode W its versions are all its free
 -- operations, and it asks one logged operation at a place.
-use Rattle.std.proofs.Common.{◌≡◌, ◌⊎◌, ⊎_elim, ℕ, zero, suc, ◌+◌, ◌-◌, ◌<◌, ◌≤◌, Bool, true, false, cond, eqb, ◌&&◌, List, [], ◌∷◌, length, Option, Some, None, refl, sym, ap, ◌∙◌, subst, arith}
+use Rattle.std.proofs.Common.{◌≡◌, ◌⊎◌, inl, inr, ⊎_elim, ℕ, zero, suc, ◌+◌, ◌-◌, ◌<◌, ◌≤◌, Bool, true, false, cond, eqb, ◌&&◌, List, [], ◌∷◌, length, Option, Some, None, refl, sym, ap, ◌∙◌, subst, arith}
 use Rattle.std.specs.Prelude.{bytes_eq, is_some}
 use Rattle.std.proofs.lemmas.Bool.{and_parts, eqb-true, cases_order}
 use Rattle.lb_base.specs.declared.value.Value.{Value}
 use Rattle.lb_base.specs.declared.value.Mode.{Mode}
 use Rattle.lb_base.specs.declared.value.Mode.TheVariants.{R, W, T}
-use Rattle.lb_base.specs.declared.value.Outcome.{Outcome}
 use Rattle.boki_types.specs.declared.body.Body.{Body}
 use Rattle.boki_types.specs.declared.operation.Op.TheVariants as o
 use Rattle.boki_types.specs.declared.operation.Ask.{Ask}
@@ -18,15 +17,15 @@ use Rattle.boki_types.specs.declared.program.Function.{Function}
 use Rattle.boki_model.specs.Live.{Live}
 use Rattle.boki_model.specs.Bodies.{step_of}
 use Rattle.boki_model.specs.Writes.{Store, Version, Raised, version, versions_at, has_version}
-use Rattle.boki_machine.specs.Decided.{Point, asked_at, free_answer, more}
-use Rattle.exactly_once.specs.Sound.{Reaches, Asks, AreNextWrites, MayStand, StandAt, frees_to, standing_at, AllFit}
+use Rattle.boki_machine.specs.Decided.{Point, asked_at, free_answer}
+use Rattle.exactly_once.specs.Sound.{AreNextWrites, MayStand, StandAt, frees_to, standing_at, AllFit}
 use Rattle.exactly_once.specs.Invariant.{MayLog, Logs}
-use Rattle.exactly_once.proofs.Tails.{Tail, here, there, shorter}
+use Rattle.exactly_once.proofs.Tails.{Tail, here, there}
 use Rattle.exactly_once.proofs.Each.{each_weaker}
 use Rattle.exactly_once.proofs.Lives.{Under}
 use Rattle.exactly_once.proofs.Positions.{Numbered, numbered_within, numbered_once, At, at_of, found_version}
 use Rattle.exactly_once.proofs.Points.{stands, Does, does, apart, began, operates, ends, cursor_within}
-use Rattle.exactly_once.proofs.Frees.{on, IsNext, next_decided, long_reaches, index_is, is_read, IsRead, reads, reads_all, none_in_T}
+use Rattle.exactly_once.proofs.Frees.{on, IsNext, next_decided, long_reaches, is_read, IsRead, reads, reads_all}
 use Rattle.exactly_once.proofs.FreeTurns.{stand_numbered}
 
 -- What is decided so far, was decided before.
@@ -170,8 +169,7 @@ module _ (setup : Setup) (fs : List Function) (store : Store) (p : List ℕ) (c 
       pub all_free : (free : ℕ) (ask : Ask) → length (on fs store xs p st free) ≡ free + length st.answers → asked_at fs p st (on fs store xs p st free) ≡ Some ask
           → ((key : List ℕ) (value : Value) → ask ≡ k.Op (o.Write key value) → version key st.cursor (suc free) store.versions ≡ None) → free ≡ versions_at st.cursor store.versions
       all_free free ask long asked absent =
-          ap (λ n. n) (⊎_elim (λ e. e) (λ cases. ⊎_elim (λ lt. absurd (never lt)) (λ gt. absurd (let le = frees_most free long in let no_way : ⊥ = omega (arith, le, gt) in no_way)) cases) (cases_order free (versions_at c store.versions)))
-          ∙ ap (λ c. versions_at c store.versions) (sym cursor)
+          same (cases_order free (versions_at c store.versions)) ∙ ap (λ c. versions_at c store.versions) (sym cursor)
         where
           never : free < versions_at c store.versions → ⊥
           never lt =
@@ -183,3 +181,8 @@ module _ (setup : Setup) (fs : List Function) (store : Store) (p : List ℕ) (c 
               let none : version u.v.key st.cursor (suc free) store.versions ≡ None = absent u.v.key u.v.value same in
               let number : u.v.k ≡ suc free = are.0 ∙ ap suc u.long in
               let no_way : None ≡ Some u.v.value = sym none ∙ (λ i. version u.v.key (cursor i) (sym number i) store.versions) ∙ found in cc
+
+          same : (free ≡ versions_at c store.versions) ⊎ ((free < versions_at c store.versions) ⊎ (versions_at c store.versions < free)) → free ≡ versions_at c store.versions
+          same (inl e) = e
+          same (inr (inl lt)) = absurd (never lt)
+          same (inr (inr gt)) = absurd (let le = frees_most free long in let no_way : ⊥ = omega (arith, le, gt) in no_way)

@@ -1,11 +1,9 @@
 -- What an attempt does alone, with no record: it answers a free operation, or learns of its next write that its value is stored
 -- or that it is late.
-use Rattle.std.proofs.Common.{◌≡◌, inl, inr, ⊎_elim, ℕ, suc, ◌+◌, ◌-◌, ◌<◌, ◌≤◌, Bool, true, false, cond, eqb, ◌&&◌, List, [], ◌∷◌, length, Option, Some, None, refl, sym, ap, ◌∙◌, subst, arith}
-use Rattle.std.specs.Prelude.{bytes_eq, is_some}
-use Rattle.std.proofs.lemmas.Bool.{and_from, eq-eqb}
+use Rattle.std.proofs.Common.{◌≡◌, ⊎_elim, ℕ, suc, ◌-◌, ◌<◌, Bool, true, false, cond, List, ◌∷◌, length, Some, None, refl, sym, ap, ◌∙◌, subst, arith}
+use Rattle.std.specs.Prelude.{is_some}
 use Rattle.lb_base.specs.declared.value.Value.{Value}
-use Rattle.lb_base.specs.declared.value.Mode.{Mode}
-use Rattle.lb_base.specs.declared.value.Mode.TheVariants.{R, W, T}
+use Rattle.lb_base.specs.declared.value.Mode.TheVariants.{R, W}
 use Rattle.boki_types.specs.declared.body.Body.{Body}
 use Rattle.boki_types.specs.declared.operation.Op.TheVariants as o
 use Rattle.boki_types.specs.declared.operation.Ask.{Ask}
@@ -19,7 +17,7 @@ use Rattle.boki_model.specs.Writes.{Store, Raised, fence, version, value_of, las
 use Rattle.boki_machine.specs.Attempt.{Attempt, answered_with}
 use Rattle.boki_machine.specs.Decided.{Point, asked_at, more, free_answer, and_answer, or_none, values_below}
 use Rattle.boki_machine.specs.Step.{asked_by}
-use Rattle.exactly_once.specs.Invariant.{KnowsStored, KnowsLate, Counts, IsFresh, Follows, IsFollowing}
+use Rattle.exactly_once.specs.Invariant.{KnowsStored, KnowsLate, Counts, Follows, IsFollowing}
 use Rattle.exactly_once.proofs.Points.{stands}
 
 module _ (setup : Setup) (fs : List Function) (store : Store) (fences : List Raised) (behind : List (Live Body)) (t : Attempt) (f : Follows setup fs store fences behind t) where

@@ -53,3 +53,4 @@ pub mod OneValue
 pub mod FreeSteps
 pub mod Operates
 pub mod Moves
+pub mod Misses

@@ -1,41 +1,38 @@
 -- A step of an attempt keeps the invariant, whatever it does.
-use Rattle.std.proofs.Common.{◌≡◌, inl, inr, ⊎_elim, ℕ, zero, suc, ◌-◌, ◌<◌, ◌≤◌, Bool, true, false, cond, eqb, List, [], ◌∷◌, length, Option, Some, None, refl, sym, ap, ◌∙◌, subst, arith}
+use Rattle.std.proofs.Common.{◌≡◌, inr, ⊎_elim, ℕ, zero, suc, ◌-◌, ◌<◌, Bool, true, false, cond, List, ◌∷◌, length, Option, Some, None, refl, sym, ap, ◌∙◌, subst, arith}
 use Rattle.std.specs.Prelude.{bytes_eq, unwrap_or}
 use Rattle.std.proofs.lemmas.Bool.{eqb-true}
 use Rattle.lb_base.specs.Path.{IsPath}
 use Rattle.lb_base.specs.declared.value.Outcome.{Outcome}
 use Rattle.boki_types.specs.declared.body.Body.{Body}
-use Rattle.boki_types.specs.declared.body.Body.TheVariants as b
 use Rattle.boki_types.specs.declared.line.Life.{Life}
 use Rattle.boki_types.specs.declared.line.Life.TheVariants.{Running, Over, Stopped, Killed}
 use Rattle.boki_types.specs.declared.line.StepLine.TheVariants as l
 use Rattle.boki_types.specs.declared.log.Call.{Call}
 use Rattle.boki_types.specs.declared.log.Sent.{Sent}
-use Rattle.boki_types.specs.declared.operation.Op.{Op}
 use Rattle.boki_types.specs.declared.operation.Ask.{Ask}
 use Rattle.boki_types.specs.declared.operation.Ask.TheVariants as k
 use Rattle.boki_types.specs.declared.plan.Setup.{Setup}
 use Rattle.boki_types.specs.declared.program.Function.{Function}
 use Rattle.boki_types.specs.Finding.{find}
-use Rattle.boki_model.specs.Live.{Live, upto, count}
+use Rattle.boki_model.specs.Live.{Live, upto}
 use Rattle.boki_model.specs.Bodies.{step_tag, step_of}
 use Rattle.boki_model.specs.Reads.{nth}
 use Rattle.boki_model.specs.Modes.{result_of, mode_behind}
-use Rattle.boki_model.specs.Writes.{Store, Raised}
-use Rattle.boki_machine.specs.Attempt.{Attempt, Move, moves, adopts, call_of, next_index}
-use Rattle.boki_machine.specs.Decided.{Point, initiated, function_of, args_of}
-use Rattle.boki_machine.specs.Step.{seqnum, below, unless_waiting, has_index, answers_to, takes, begins, asked_by, goes_on, placed, with_call, if_running, step}
-use Rattle.exactly_once.specs.Sound.{MayBegin}
+use Rattle.boki_model.specs.Writes.{Store}
+use Rattle.boki_machine.specs.Attempt.{Attempt, Move, call_of, next_index}
+use Rattle.boki_machine.specs.Decided.{Point, initiated}
+use Rattle.boki_machine.specs.Step.{below, unless_waiting, has_index, answers_to, takes, begins, asked_by, placed, with_call, if_running}
 use Rattle.exactly_once.specs.Steps.{steps_of}
-use Rattle.exactly_once.specs.Invariant.{World, records, values, marks, marks_by, AreFenced, IsSeen, IsFresh, Follows, IsFollowing, IsAmong, Holds}
+use Rattle.exactly_once.specs.Invariant.{World, records, values, marks, marks_by, AreFenced, IsSeen, IsFresh, Follows, IsAmong, Holds}
 use Rattle.exactly_once.specs.Moves.{MoveKeeps, MovesKeep}
 use Rattle.exactly_once.specs.Versions.{VersionsKeep}
 use Rattle.exactly_once.proofs.Lives.{live_under}
 use Rattle.exactly_once.proofs.Points.{stands, Does, does, apart, began, operates, ends}
 use Rattle.exactly_once.proofs.SamePlace.{called_upto, place_is, unbegun_marks}
 use Rattle.exactly_once.proofs.Maps.{same_itself}
-use Rattle.exactly_once.proofs.Recorded.{IsRecorded, recorded, none_begun, none_found, count_steps, tagged_upto}
-use Rattle.exactly_once.proofs.Acting.{called_path, own_log, engine_at, within_log, following, up_to, at_point, fit_here}
+use Rattle.exactly_once.proofs.Recorded.{recorded, none_begun, none_found, count_steps, tagged_upto}
+use Rattle.exactly_once.proofs.Acting.{called_path, own_log, engine_at, within_log, following, up_to, fit_here}
 use Rattle.exactly_once.proofs.Sends.{init_right}
 use Rattle.exactly_once.proofs.Adopts.{no_frees, stay_right, life_right, tags, Recorded}
 use Rattle.exactly_once.proofs.Takes.{takes_right}

@@ -1,5 +1,5 @@
 -- A name has one value: whoever stores it asked the same write at the same place.
-use Rattle.std.proofs.Common.{◌≡◌, ◌⊎◌, ⊎_elim, ℕ, ◌<◌, ◌≤◌, Bool, true, false, cond, eqb, ◌&&◌, List, [], ◌∷◌, length, Option, Some, None, refl, sym, ap, ◌∙◌, subst, arith}
+use Rattle.std.proofs.Common.{◌≡◌, ⊎_elim, ℕ, ◌≤◌, Bool, true, false, cond, eqb, List, [], ◌∷◌, length, Some, refl, sym, ap, ◌∙◌, subst, arith}
 use Rattle.std.specs.Prelude.{bytes_eq}
 use Rattle.std.specs.List.{AllByRecursion}
 use Rattle.std.proofs.lemmas.Bool.{and_parts, eqb-true, cases_order}
@@ -16,7 +16,7 @@ use Rattle.boki_model.specs.Writes.{Store, Stored, Raised, same_name, value_of}
 use Rattle.boki_model.proofs.Logs.{upto-upto}
 use Rattle.boki_machine.specs.Decided.{Point}
 use Rattle.exactly_once.specs.Sound.{AllFit}
-use Rattle.exactly_once.specs.Invariant.{MayLog, AreFenced, marks, Logs, IsOwed}
+use Rattle.exactly_once.specs.Invariant.{MayLog, AreFenced, Logs, IsOwed}
 use Rattle.exactly_once.specs.Steps.{steps_of}
 use Rattle.exactly_once.proofs.Lives.{Under}
 use Rattle.exactly_once.proofs.Maps.{same_key}

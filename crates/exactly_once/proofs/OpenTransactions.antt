@@ -15,14 +15,14 @@ use Rattle.boki_types.specs.declared.operation.Answer.TheVariants as a
 use Rattle.boki_types.specs.declared.plan.Setup.{Setup}
 use Rattle.boki_types.specs.declared.program.Function.{Function}
 use Rattle.boki_model.specs.Live.{Live}
-use Rattle.boki_model.specs.Bodies.{step_of, child}
-use Rattle.boki_model.specs.Modes.{finish_of, result_of}
+use Rattle.boki_model.specs.Bodies.{step_of}
+use Rattle.boki_model.specs.Modes.{finish_of}
 use Rattle.boki_model.specs.Writes.{Store}
 use Rattle.boki_machine.specs.Decided.{Point, asked_at, free_answer, and_answer, more, own_answer, joined, transaction_behind}
 use Rattle.exactly_once.specs.Sound.{Asks, MayBegin, Fits, frees_to, AllFit}
 use Rattle.exactly_once.proofs.Maps.{same_itself}
 use Rattle.exactly_once.proofs.Points.{stands, Does, does, apart, began, operates, ends}
-use Rattle.exactly_once.proofs.Scripts.{IsAsking, IsRight, open_at, open_behind, asking, open_before, none_open}
+use Rattle.exactly_once.proofs.Scripts.{open_at, open_behind, asking, open_before, none_open}
 
 -- A free operation opens and ends no transaction.
 

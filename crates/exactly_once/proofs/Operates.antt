@@ -1,5 +1,5 @@
 -- What an attempt does where no record answers the operation that it asks.
-use Rattle.std.proofs.Common.{◌≡◌, inl, inr, ℕ, suc, ◌<◌, ◌≤◌, Bool, true, false, cond, ltb, eqb, ◌&&◌, ◌||◌, not, List, [], ◌∷◌, length, Option, Some, None, refl, sym, ap, ◌∙◌, subst, arith}
+use Rattle.std.proofs.Common.{◌≡◌, inl, inr, ℕ, suc, Bool, true, false, cond, ltb, eqb, ◌&&◌, not, List, ◌∷◌, length, Option, Some, None, refl, sym, ap, ◌∙◌, subst}
 use Rattle.std.specs.Prelude.{bytes_eq, is_some}
 use Rattle.std.proofs.lemmas.Bool.{and_from, eq-eqb, ltb-true, ltb-false}
 use Rattle.lb_base.specs.Path.{IsPath}
@@ -8,40 +8,36 @@ use Rattle.lb_base.specs.declared.value.Mode.{Mode}
 use Rattle.lb_base.specs.declared.value.Mode.TheVariants.{R, W, T}
 use Rattle.lb_base.specs.declared.value.Outcome.{Outcome}
 use Rattle.boki_types.specs.declared.body.Body.{Body}
-use Rattle.boki_types.specs.declared.body.Body.TheVariants as b
 use Rattle.boki_types.specs.declared.line.Life.TheVariants.{Running}
-use Rattle.boki_types.specs.declared.line.StepLine.{StepLine}
 use Rattle.boki_types.specs.declared.line.StepLine.TheVariants as l
 use Rattle.boki_types.specs.declared.log.Sent.{Sent}
 use Rattle.boki_types.specs.declared.operation.Op.{Op}
 use Rattle.boki_types.specs.declared.operation.Op.TheVariants as o
 use Rattle.boki_types.specs.declared.operation.Ask.{Ask}
 use Rattle.boki_types.specs.declared.operation.Ask.TheVariants as k
-use Rattle.boki_types.specs.declared.operation.Answer.{Answer}
 use Rattle.boki_types.specs.declared.operation.Answer.TheVariants as a
 use Rattle.boki_types.specs.declared.plan.Setup.{Setup}
 use Rattle.boki_types.specs.declared.program.Function.{Function}
-use Rattle.boki_types.specs.declared.store.Name.{Name}
 use Rattle.boki_types.specs.declared.store.Put.{Put}
 use Rattle.boki_types.specs.declared.store.Put.TheVariants as put
 use Rattle.boki_model.specs.Live.{Live, upto}
 use Rattle.boki_model.specs.Bodies.{child}
 use Rattle.boki_model.specs.Modes.{result_of}
-use Rattle.boki_model.specs.Writes.{Store, Stored, Version, fence, version, value_of, last, read_free, has_version, put_at, put_by, after_put, name_if_new, after_named}
+use Rattle.boki_model.specs.Writes.{Store, Stored, fence, version, value_of, last, read_free, has_version, put_at, put_by, after_put, name_if_new}
 use Rattle.boki_model.proofs.Logs.{upto-upto}
 use Rattle.boki_machine.specs.Attempt.{Attempt, Move, moves, answered_with, next_index}
 use Rattle.boki_machine.specs.Decided.{values_below}
 use Rattle.boki_machine.specs.Decided as decided
 use Rattle.boki_machine.specs.Step.{seqnum, gone, or_none, pairs, read_all, is_inline, name_for, reads, reads_group, logs_write, puts_free, writes, joins, operates, asks, asked_by}
-use Rattle.exactly_once.specs.Invariant.{World, records, values, position_of, IsSeen, Follows, IsFollowing, IsOwed, IsAmong, Holds}
+use Rattle.exactly_once.specs.Invariant.{World, records, values, IsSeen, Follows, IsFollowing, IsOwed, IsAmong, Holds}
 use Rattle.exactly_once.specs.Moves.{MoveKeeps}
 use Rattle.exactly_once.specs.Names.{names}
-use Rattle.exactly_once.specs.Versions.{VersionsKeep, MayPut, puts, next_version}
+use Rattle.exactly_once.specs.Versions.{VersionsKeep, puts, next_version}
 use Rattle.exactly_once.proofs.Lives.{live_under}
 use Rattle.exactly_once.proofs.Maps.{same_itself}
 use Rattle.exactly_once.proofs.NamesKeep.{names_keep}
 use Rattle.exactly_once.proofs.Views.{read_value, read_values}
-use Rattle.exactly_once.proofs.Acting.{engine_at, following, up_to, at_point}
+use Rattle.exactly_once.proofs.Acting.{engine_at, following, up_to}
 use Rattle.exactly_once.proofs.Sends as sends
 use Rattle.exactly_once.proofs.Adopts.{stay_right, gone_right}
 use Rattle.exactly_once.proofs.OneValue.{one_value}

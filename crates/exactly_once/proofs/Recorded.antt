@@ -1,22 +1,19 @@
 -- The record at an attempt's place, as its engine sees it: what lies behind it is the same in the whole log, and its invocation
 -- is there where the attempt is.
-use Rattle.std.proofs.Common.{◌≡◌, ℕ, zero, suc, ◌-◌, ◌<◌, ◌≤◌, Bool, true, false, cond, eqb, leb, ◌&&◌, List, [], ◌∷◌, length, Option, Some, None, ⊎_elim, ◌⊎◌, refl, sym, ap, ◌∙◌, subst, arith}
-use Rattle.std.specs.Prelude.{bytes_eq}
+use Rattle.std.proofs.Common.{◌≡◌, ℕ, suc, ◌<◌, ◌≤◌, Bool, true, false, cond, eqb, leb, ◌&&◌, List, [], ◌∷◌, length, Option, Some, None, ⊎_elim, refl, sym, ap, ◌∙◌, subst, arith}
 use Rattle.std.specs.List.{AllByRecursion}
 use Rattle.std.proofs.lemmas.Bool.{eqb-true, eq-eqb, cases_order}
 use Rattle.lb_base.specs.Path.{IsPath}
-use Rattle.lb_base.specs.declared.value.Outcome.{Outcome}
 use Rattle.boki_types.specs.declared.body.Body.{Body}
 use Rattle.boki_types.specs.declared.plan.Setup.{Setup}
 use Rattle.boki_types.specs.declared.program.Function.{Function}
 use Rattle.boki_model.specs.Live.{Entry, Live, has_tag, count, meets, live, upto}
-use Rattle.boki_model.specs.Reads.{nth, or_else}
+use Rattle.boki_model.specs.Reads.{nth}
 use Rattle.boki_model.specs.Bodies.{step_tag, step_of}
-use Rattle.boki_model.specs.Modes.{result_of, finish_of}
 use Rattle.boki_model.specs.Writes.{Store}
 use Rattle.boki_model.proofs.Logs.{upto_here, upto_skip, upto-upto}
 use Rattle.boki_machine.specs.Decided.{Point, more}
-use Rattle.exactly_once.specs.Sound.{Fits, AllFit}
+use Rattle.exactly_once.specs.Sound.{AllFit}
 use Rattle.exactly_once.specs.Steps.{IsOwn, is_step_of, steps_of}
 use Rattle.exactly_once.specs.Invariant.{marks}
 use Rattle.exactly_once.proofs.Lives.{Under, upto_whole}
@@ -112,11 +109,8 @@ step_is p (Some s) is = (s.1, λ j. Some (sym (same_key p s.0 is) j, s.1))
 
 -- an invocation without step records has not begun
 pub none_begun : (setup : Setup) (fs : List Function) (store : Store) (p : List ℕ) (xs : List (Live Body)) → AllFit setup fs store xs → (stands setup fs store p xs).begun ≡ true → 0 < length (steps_of p xs)
-none_begun setup fs store p xs fit begun = at (stands setup fs store p xs).place refl (ends_begun xs fit begun)
+none_begun setup fs store p xs fit begun = let some = ends_begun xs fit begun in let same = place_is setup fs store p xs fit in omega (arith, some, same)
   where
-    at : (n : ℕ) → (stands setup fs store p xs).place ≡ n → 0 < (stands setup fs store p xs).place → 0 < length (steps_of p xs)
-    at n e lt = let same = place_is setup fs store p xs fit in omega (arith, lt, same)
-
     ends_begun : (xs : List (Live Body)) → AllFit setup fs store xs → (stands setup fs store p xs).begun ≡ true → 0 < (stands setup fs store p xs).place
     ends_begun [] fit begun = let no_way : false ≡ true = begun in cc
     ends_begun (x ∷ xs) fit begun = by (ends_begun xs fit.2) (stands setup fs store p (x ∷ xs)) begun (does setup fs store x xs p fit.0)

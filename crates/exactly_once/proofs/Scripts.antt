@@ -2,7 +2,7 @@
 -- where a transaction is open.
 use Rattle.std.proofs.Common.{◌≡◌, ℕ, zero, suc, ◌≤◌, Bool, true, false, cond, eqb, leb, ◌&&◌, ◌||◌, List, [], ◌∷◌, length, Option, Some, None, option_map, Result, Ok, Err, refl, sym, ap, ◌∙◌, subst, arith}
 use Rattle.std.specs.Prelude.{pos, option_and_then, unwrap_or, is_some, bytes_eq}
-use Rattle.std.proofs.lemmas.Bool.{eqb-true, eq-eqb, or_parts}
+use Rattle.std.proofs.lemmas.Bool.{eqb-true, eq-eqb}
 use Rattle.lb_base.specs.declared.value.Value.{Value}
 use Rattle.lb_base.specs.declared.value.Value.TheVariants.{Int, Text, Nothing}
 use Rattle.lb_base.specs.declared.value.TrapKind.{TrapKind}
@@ -88,12 +88,15 @@ module _ (fs : List Function) (depth : ℕ) where
         at : (b : Bool) → eqb depth 4 ≡ b → (c : Bool) → eqb (suc t.spawned) 4096 ≡ c → Flows n is_open (cond (b || c) (trapped trap.Spawn) (asks (One x) lines t (o.Spawn (suc t.spawned) (unwrap_or (find f fs) 0) args)))
         at true d c e = tt
         at false d true e = tt
-        at false d false e = (is, record {
-          ordinal_is = ap suc is.0;
-          shallow = λ h. let yes : eqb depth 4 ≡ true = eq-eqb depth 4 h in let no_way : ⊥ = cc in no_way;
-          few = λ h. let yes : eqb (suc t.spawned) 4096 ≡ true = eq-eqb (suc t.spawned) 4096 h in let no_way : ⊥ = cc in no_way;
-          found = some f;
-        })
+        at false d false e = (
+          is,
+          record {
+            ordinal_is = ap suc is.0;
+            shallow = λ h. let yes : eqb depth 4 ≡ true = eq-eqb depth 4 h in let no_way : ⊥ = cc in no_way;
+            few = λ h. let yes : eqb (suc t.spawned) 4096 ≡ true = eq-eqb (suc t.spawned) 4096 h in let no_way : ⊥ = cc in no_way;
+            found = some f;
+          },
+        )
 
     joins_flow : (x : List ℕ) (lines : List Stmt) (t : State) → IsAt n is_open t → (v : Value) → Flows n is_open (joins x lines t v)
     joins_flow x lines t is (Int (pos m)) = at (leb 1 m && leb m t.spawned)

@@ -1,35 +1,31 @@
 -- The record that an attempt sends was asked.
-use Rattle.std.proofs.Common.{◌≡◌, ◌⊎◌, inl, inr, ℕ, zero, suc, ◌<◌, ◌≤◌, Bool, true, false, cond, leb, ltb, eqb, ◌&&◌, List, [], ◌∷◌, length, Option, Some, None, refl, sym, ap, ◌∙◌, subst, arith}
-use Rattle.std.specs.Prelude.{is_some, unwrap_or, nat_lt, nat_le}
-use Rattle.std.specs.List.{AllByRecursion}
+use Rattle.std.proofs.Common.{◌≡◌, ◌⊎◌, inl, inr, ℕ, suc, ◌<◌, ◌≤◌, Bool, true, false, leb, ltb, ◌&&◌, List, [], ◌∷◌, length, Option, Some, None, refl, sym, ap, ◌∙◌, subst, arith}
+use Rattle.std.specs.Prelude.{is_some, unwrap_or}
 use Rattle.std.proofs.lemmas.Bool.{and_parts, and_from, ltb-true, lt-ltb, le-leb}
 use Rattle.lb_base.specs.Path.{IsPath, is_path, is_ordinal, is_request, are_ordinals}
 use Rattle.lb_base.specs.declared.value.Value.{Value}
 use Rattle.lb_base.specs.declared.value.Mode.{Mode}
 use Rattle.lb_base.specs.declared.value.Mode.TheVariants.{R, W, T}
 use Rattle.lb_base.specs.declared.value.Outcome.{Outcome}
-use Rattle.lb_base.specs.declared.value.Cond.{Cond}
 use Rattle.boki_types.specs.declared.body.Body.{Body}
 use Rattle.boki_types.specs.declared.body.Body.TheVariants as b
 use Rattle.boki_types.specs.declared.line.StepLine.{StepLine}
 use Rattle.boki_types.specs.declared.log.Call.{Call}
-use Rattle.boki_types.specs.declared.operation.Op.{Op}
 use Rattle.boki_types.specs.declared.operation.Op.TheVariants as o
 use Rattle.boki_types.specs.declared.operation.Ask.{Ask}
 use Rattle.boki_types.specs.declared.operation.Ask.TheVariants as k
-use Rattle.boki_types.specs.declared.operation.Answer.{Answer}
 use Rattle.boki_types.specs.declared.plan.Setup.{Setup}
 use Rattle.boki_types.specs.declared.program.Function.{Function}
-use Rattle.boki_model.specs.Live.{Entry, Live, upto}
+use Rattle.boki_model.specs.Live.{Live, upto}
 use Rattle.boki_model.specs.Bodies.{child}
 use Rattle.boki_model.specs.Modes.{result_of}
-use Rattle.boki_model.specs.Writes.{Store, Raised, fence, version, value_of, here_or_named}
-use Rattle.boki_machine.specs.Attempt.{Attempt, Move, sends_record, step_entry, call_of, next_index}
-use Rattle.boki_machine.specs.Decided.{Point, asked_at, more}
+use Rattle.boki_model.specs.Writes.{fence, version, value_of, here_or_named}
+use Rattle.boki_machine.specs.Attempt.{Attempt, sends_record, step_entry, call_of, next_index}
+use Rattle.boki_machine.specs.Decided.{Point, asked_at}
 use Rattle.boki_machine.specs.Step.{asked_by, name_at}
 use Rattle.exactly_once.specs.Sound.{MayBegin, AllFit}
-use Rattle.exactly_once.specs.Steps.{has_paths, at_place, steps_of}
-use Rattle.exactly_once.specs.Invariant.{World, records, values, MayLog, Logs, IsNext, IsStep, IsFresh, Follows, IsFollowing, IsAsked, IsAmong, KnowsStored, KnowsLate, Holds}
+use Rattle.exactly_once.specs.Steps.{at_place, steps_of}
+use Rattle.exactly_once.specs.Invariant.{World, records, values, MayLog, Logs, IsNext, IsStep, Follows, IsAsked, IsAmong, KnowsStored, KnowsLate, Holds}
 use Rattle.exactly_once.specs.Moves.{MoveKeeps}
 use Rattle.exactly_once.proofs.Points.{stands}
 use Rattle.exactly_once.proofs.SamePlace.{place_is, fit_upto}

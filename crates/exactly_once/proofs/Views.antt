@@ -1,5 +1,5 @@
 -- What an engine's view answers: reads below a seqnum, and whether a commit there succeeded, don't depend on what comes behind.
-use Rattle.std.proofs.Common.{◌≡◌, ℕ, suc, ◌<◌, ◌≤◌, Bool, true, false, cond, eqb, leb, ltb, ◌||◌, max, List, [], ◌∷◌, map, Option, Some, None, refl, sym, ap, ◌∙◌, arith}
+use Rattle.std.proofs.Common.{◌≡◌, ℕ, suc, ◌<◌, ◌≤◌, Bool, true, false, cond, eqb, leb, ltb, ◌||◌, max, List, [], ◌∷◌, Option, Some, None, refl, ap, ◌∙◌, arith}
 use Rattle.std.specs.Prelude.{bytes_eq}
 use Rattle.std.specs.List.{list_any}
 use Rattle.std.proofs.lemmas.Bool.{eq-eqb, ne_eqb, leb-false}
@@ -8,7 +8,7 @@ use Rattle.boki_types.specs.declared.body.Body.{Body}
 use Rattle.boki_types.specs.declared.body.Body.TheVariants as b
 use Rattle.boki_types.specs.declared.store.Fenced.TheVariants as fenced
 use Rattle.boki_model.specs.Live.{Live, upto}
-use Rattle.boki_model.specs.Writes.{Store, Raised, fence, raised, last, found, read_below, read_free, read_fenced}
+use Rattle.boki_model.specs.Writes.{Store, Raised, fence, raised, last, found, read_below}
 use Rattle.boki_model.specs.Folds.{Commit, commits, committed, succeeds}
 use Rattle.boki_machine.specs.Decided.{or_none, values_below}
 use Rattle.boki_machine.specs.Step as step
@@ -104,8 +104,7 @@ pub raised_marks : (keys : List (List ℕ)) (seq : ℕ) (fences others : List Ra
 raised_marks [] seq fences others all = all
 raised_marks (key ∷ keys) seq fences others all =
     let rest = raised keys seq fences in
-    let r : Raised = record { key = key; at = seq } in
-    (
+    let r : Raised = record { key = key; at = seq } in (
       fence_own key seq rest,
       each_weaker (λ (m : Raised). m.at ≤ fence m.key rest) (λ (m : Raised). m.at ≤ fence m.key (r ∷ rest)) (λ m le. let grown = fence_more r rest m.key in omega (arith, le, grown)) (marks_at seq keys others) (raised_marks keys seq fences others all),
     )

@@ -1,5 +1,5 @@
 -- A step of an attempt keeps the invariant, whatever it does; and so does the store call of a step whose answer is lost.
-use Rattle.std.specs.Prelude.{◌≡◌, ℕ, List, ◌∷◌, length, Option, Some, None}
+use Rattle.std.specs.Prelude.{List, ◌∷◌, length, Option, Some, None}
 use Rattle.boki_types.specs.declared.body.Body.{Body}
 use Rattle.boki_types.specs.declared.log.Sent.{Sent}
 use Rattle.boki_types.specs.declared.plan.Setup.{Setup}
