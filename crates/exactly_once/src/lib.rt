@@ -1,12 +1,13 @@
-//! Towards the main theorem, apart from any code: whatever happens, each invocation has effects as if it had run once. What is
-//! proved of it are the laws below, functions with an empty body of which each has its law as its contract; the definitions are
-//! in `specs/`. That every event keeps the invariant is not proved yet, and so the theorem isn't.
+//! The main theorem, apart from any code: whatever happens, each invocation has effects as if it had run once. Each function
+//! here has an empty body, and a law as its contract; the definitions are in `specs/`. `exactly_once` is the theorem, and the
+//! others are the steps to it.
 #![tactic(auto)]
 
 ghost use Rattle.exactly_once.specs.Events.{QuietEventsKeep};
-ghost use Rattle.exactly_once.specs.Exact.{EventsKeep};
+ghost use Rattle.exactly_once.specs.Exact.{EventsKeep, EventsAreExact, ExactlyOnce};
 ghost use Rattle.exactly_once.specs.Exclusion.{ModesExclude, FloorsPass};
 ghost use Rattle.exactly_once.specs.MicroSteps.{MicroStepsKeep};
+ghost use Rattle.exactly_once.specs.Moves.{MissesKeep, MovesKeep};
 ghost use Rattle.exactly_once.specs.Names.{NamesKeep};
 ghost use Rattle.exactly_once.specs.Opening.{OpeningHolds, HoldingIsReported};
 ghost use Rattle.exactly_once.specs.Orders.{OrdersKeep};
@@ -75,7 +76,28 @@ pub fn versions_keep()
     ensures { VersionsKeep }
 {}
 
+/// A step of an attempt keeps the invariant, and leaves the attempt where the records put it.
+pub fn moves_keep()
+    ensures { MovesKeep }
+{}
+
+/// The store call of a step whose answer is lost keeps the invariant.
+pub fn misses_keep()
+    ensures { MissesKeep }
+{}
+
 /// Every event that a plan can have keeps the invariant of the machine.
 pub fn events_keep()
     ensures { EventsKeep }
+{}
+
+/// **Exactly once, for any events in any number**: from the opening, the failure-free execution of the turns is defined, and its
+/// results, objects, queues and store names are those of the machine's report.
+pub fn events_are_exact()
+    ensures { EventsAreExact }
+{}
+
+/// **Exactly once**, for every plan.
+pub fn exactly_once()
+    ensures { ExactlyOnce }
 {}

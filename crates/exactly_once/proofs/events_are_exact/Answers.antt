@@ -1,0 +1,9 @@
+use Rattle.exactly_once.proofs.VersionsKeep.{versions_keep}
+use Rattle.exactly_once.proofs.Moves.{moves_keep}
+use Rattle.exactly_once.proofs.Misses.{misses_keep}
+use Rattle.exactly_once.proofs.EventsKeep.{events_keep}
+use Rattle.exactly_once.proofs.Exact.{events_are_exact}
+use Rattle.exactly_once.proofs.events_are_exact.Goals as goal
+
+pub returns : goal.returns
+returns c = events_are_exact (events_keep (moves_keep versions_keep) (misses_keep versions_keep))
