@@ -268,7 +268,7 @@ module _ (setup : Setup) (fs : List Function) (m : Machine) (good : MachineHolds
     steps_holds n (Some a) e =
         let at = next_sent setup m a.engine in
         moved_holds n a.engine a (step setup fs m.store (view m a.engine) at a)
-        (subst (λ engine. 1 ≤ engine) (sym (step_stays setup fs a m.store (view m a.engine) at)) (found_engine n a m.attempts e good.engines))
+        (subst (λ engine. 1 ≤ engine) (sym (step_stays setup fs a m.store (view m a.engine) at).0) (found_engine n a m.attempts e good.engines))
         (moves_keep setup fs (world_of m) a at good.holds (found_among n a m.attempts e))
 
     misses_holds : (n : ℕ) (o : Option Attempt) → attempt_at n m.attempts ≡ o → MachineHolds setup fs (misses setup fs m o).machine

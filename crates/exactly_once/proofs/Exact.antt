@@ -1,5 +1,5 @@
 -- For every list of events, and so for every plan.
-use Rattle.std.proofs.Common.{◌≡◌, ℕ, zero, suc, ◌+◌, ◌*◌, ◌≤◌, Bool, true, false, ◌&&◌, List, [], ◌∷◌, ◌++◌, length, Some, None, refl, arith}
+use Rattle.std.proofs.Common.{◌≡◌, ℕ, zero, suc, ◌+◌, ◌*◌, ◌≤◌, Bool, true, false, ◌&&◌, List, [], ◌∷◌, ◌++◌, length, Some, None, refl, sym, ap, ◌∙◌, arith}
 use Rattle.std.specs.Prelude.{replicate, IsTrue}
 use Rattle.std.specs.List.{list_all, AllByRecursion}
 use Rattle.std.proofs.lemmas.Bool.{and_parts}
@@ -14,10 +14,15 @@ use Rattle.boki_types.specs.declared.program.Function.{Function}
 use Rattle.boki_model.specs.Live.{Entry}
 use Rattle.boki_model.specs.OrderLaws.{Have}
 use Rattle.boki_model.specs.Plans.{is_event, is_item, repeated, events_of, events}
-use Rattle.boki_machine.specs.Machine.{Machine, opening, happens, run}
+use Rattle.boki_machine.specs.Machine.{Machine, live_log, opening, happens, run}
+use Rattle.boki_machine.specs.Turns.{turns}
+use Rattle.boki_machine.specs.Ideal.{ideal}
+use Rattle.boki_machine.specs.Ideal as ideal
+use Rattle.exactly_once.specs.Reported.{IsReported}
 use Rattle.exactly_once.specs.Exact.{MachineHolds, EventsKeep, EventsAreExact, ExactlyOnce}
 use Rattle.exactly_once.proofs.Each.{each_append}
 use Rattle.exactly_once.proofs.Opening.{opening_holds, holding_is_reported}
+use Rattle.exactly_once.proofs.Initial.{run_stays}
 
 have_none : (n : ℕ) → Have {A = Entry Body} (replicate n []) []
 have_none zero = tt
@@ -56,7 +61,13 @@ module _ (setup : Setup) (fs : List Function) where
 
 pub events_are_exact : EventsKeep → EventsAreExact
 events_are_exact keep setup fs objects es all =
-    holding_is_reported setup fs (run setup fs es (opening setup objects)).machine (run_holds setup fs keep es (opening setup objects) all (opens setup fs objects)).holds
+    let m = (run setup fs es (opening setup objects)).machine in
+    let is : IsReported fs m = holding_is_reported setup fs m (run_holds setup fs keep es (opening setup objects) all (opens setup fs objects)).holds in
+    record {
+      state = is.state;
+      defined = ap (λ first. ideal fs (turns fs m.store.versions (live_log m)) (ideal.opening first)) (sym (run_stays setup fs es (opening setup objects))) ∙ is.defined;
+      reported = is.reported;
+    }
 
 pub exactly_once : EventsKeep → ExactlyOnce
 exactly_once keep plan ok =

@@ -38,6 +38,7 @@ pub mod Unmoved
 pub mod VersionsKeep
 pub mod Shards
 pub mod Engines
+pub mod Initial
 pub mod EventsKeep
 pub mod Exact
 pub mod Scripts
