@@ -39,11 +39,11 @@ module _ (fs : List Function) (store : Store) (xs : List (Live Body)) (p : List 
       long_before d n (d + n) refl next.before
 
   -- of two numbers of decided operations, behind the lesser one a free operation is decided
-  free_between : (n m : ℕ) → n < m → length (on fs store xs p st m) ≡ m + length st.answers → IsNext fs store xs p st n
+  pub free_between : (n m : ℕ) → n < m → length (on fs store xs p st m) ≡ m + length st.answers → IsNext fs store xs p st n
   free_between n m lt long = next_decided fs store xs p st n (long_before (m - suc n) (suc n) m (omega (arith, lt)) long)
 
   -- where a read or an operation of mode T is free, it isn't logged
-  no_free : (fences : List Raised) (n : ℕ) (ask : Ask) → (st.mode ≡ W → ⊥) → asked_at fs p st (on fs store xs p st n) ≡ Some ask → MayLog fences st.mode st.cursor ask → IsNext fs store xs p st n → ⊥
+  pub no_free : (fences : List Raised) (n : ℕ) (ask : Ask) → (st.mode ≡ W → ⊥) → asked_at fs p st (on fs store xs p st n) ≡ Some ask → MayLog fences st.mode st.cursor ask → IsNext fs store xs p st n → ⊥
   no_free fences n ask not_W asked may next = at st.mode refl may next.free
     where
       at : (mode : Mode) → st.mode ≡ mode → MayLog fences mode st.cursor ask → free_answer store xs st.cursor n mode (asked_at fs p st (on fs store xs p st n)) ≡ Some next.answer → ⊥
@@ -159,7 +159,7 @@ module _ (setup : Setup) (fs : List Function) (store : Store) (p : List ℕ) (c 
           at false f e = cc
       is_there n _ x e = cc
 
-      frees_most : (n : ℕ) → length (on fs store xs p st n) ≡ n + length st.answers → n ≤ versions_at c store.versions
+      pub frees_most : (n : ℕ) → length (on fs store xs p st n) ≡ n + length st.answers → n ≤ versions_at c store.versions
       frees_most zero long = omega arith
       frees_most (suc n) long =
           let next : IsNext fs store xs p st n = next_decided fs store xs p st n long in

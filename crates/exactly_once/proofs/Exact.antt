@@ -29,7 +29,7 @@ have_none zero = tt
 have_none (suc n) = (omega arith, have_none n)
 
 module _ (setup : Setup) (fs : List Function) where
-  opens : (objects : List (List ℕ × Value)) → MachineHolds setup fs (opening setup objects)
+  pub opens : (objects : List (List ℕ × Value)) → MachineHolds setup fs (opening setup objects)
   opens objects = record { holds = opening_holds setup fs objects; grow = tt; have = have_none setup.shards; replicas = tt; engines = tt }
 
   abbrev MayHappen : List Event → Type 0
@@ -55,7 +55,7 @@ module _ (setup : Setup) (fs : List Function) where
       each_append (λ e. IsTrue (is_event setup fs e)) (events_of i) (events is) (item_events i parts.0) (valid_events is parts.1)
 
   module _ (events_keep : EventsKeep) where
-    run_holds : (es : List Event) (m : Machine) → MayHappen es → MachineHolds setup fs m → MachineHolds setup fs (run setup fs es m).machine
+    pub run_holds : (es : List Event) (m : Machine) → MayHappen es → MachineHolds setup fs m → MachineHolds setup fs (run setup fs es m).machine
     run_holds [] m all good = good
     run_holds (e ∷ es) m all good = run_holds es (happens setup fs m e).machine all.1 (events_keep setup fs m e all.0 good)
 

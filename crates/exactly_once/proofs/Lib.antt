@@ -55,3 +55,5 @@ pub mod FreeSteps
 pub mod Operates
 pub mod Moves
 pub mod Misses
+pub mod Duplicates
+pub mod Laws

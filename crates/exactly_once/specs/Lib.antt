@@ -12,3 +12,4 @@ pub mod Steps
 pub mod Versions
 pub mod Moves
 pub mod Exact
+pub mod Laws

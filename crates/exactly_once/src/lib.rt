@@ -7,6 +7,7 @@ ghost use Rattle.exactly_once.specs.Events.{QuietEventsKeep};
 ghost use Rattle.exactly_once.specs.Exact.{EventsKeep, EventsAreExact, ExactlyOnce};
 ghost use Rattle.exactly_once.specs.Exclusion.{ModesExclude, FloorsPass};
 ghost use Rattle.exactly_once.specs.MicroSteps.{MicroStepsKeep};
+ghost use Rattle.exactly_once.specs.Laws.{AfterEvents, DuplicatesAgree};
 ghost use Rattle.exactly_once.specs.Moves.{MissesKeep, MovesKeep};
 ghost use Rattle.exactly_once.specs.Names.{NamesKeep};
 ghost use Rattle.exactly_once.specs.Opening.{OpeningHolds, HoldingIsReported};
@@ -100,4 +101,9 @@ pub fn events_are_exact()
 /// **Exactly once**, for every plan.
 pub fn exactly_once()
     ensures { ExactlyOnce }
+{}
+
+/// Duplicates agree: whatever happened, the answers of each attempt are the first ones that its invocation has decided.
+pub fn duplicates_agree()
+    ensures { AfterEvents DuplicatesAgree }
 {}

@@ -1,0 +1,19 @@
+-- Laws of a machine that the invariant holds of are laws after any events.
+use Rattle.boki_types.specs.declared.event.Event.{Event}
+use Rattle.boki_types.specs.declared.plan.Setup.{Setup}
+use Rattle.boki_types.specs.declared.program.Function.{Function}
+use Rattle.std.proofs.Common.{List}
+use Rattle.boki_machine.specs.Machine.{Machine, opening, run}
+use Rattle.exactly_once.specs.Exact.{MachineHolds, EventsKeep}
+use Rattle.exactly_once.specs.Opening.{world_of}
+use Rattle.exactly_once.specs.Laws.{AfterEvents, DuplicatesAgree, attempts_of}
+use Rattle.exactly_once.proofs.Exact.{run_holds, opens}
+use Rattle.exactly_once.proofs.Duplicates.{all_agree}
+
+module _ (keep : EventsKeep) where
+  pub after_events : (Law : Setup → List Function → Machine → Type 0) → ((setup : Setup) (fs : List Function) (m : Machine) → MachineHolds setup fs m → Law setup fs m) → AfterEvents Law
+  after_events Law law setup fs objects events all =
+      law setup fs (run setup fs events (opening setup objects)).machine (run_holds setup fs keep events (opening setup objects) all (opens setup fs objects))
+
+  pub duplicates_agree : AfterEvents DuplicatesAgree
+  duplicates_agree = after_events DuplicatesAgree (λ setup fs m good. all_agree setup fs (world_of m) good.holds (attempts_of m) good.holds.attempts)
