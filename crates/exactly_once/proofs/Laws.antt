@@ -1,5 +1,4 @@
 -- Laws of a machine that the invariant holds of are laws after any events.
-use Rattle.boki_types.specs.declared.event.Event.{Event}
 use Rattle.boki_types.specs.declared.plan.Setup.{Setup}
 use Rattle.boki_types.specs.declared.program.Function.{Function}
 use Rattle.std.proofs.Common.{List}

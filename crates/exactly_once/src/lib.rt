@@ -15,7 +15,7 @@ ghost use Rattle.exactly_once.specs.Orders.{OrdersKeep};
 ghost use Rattle.exactly_once.specs.Reported.{ReportsAgree};
 ghost use Rattle.exactly_once.specs.Runs.{SoundRuns};
 ghost use Rattle.exactly_once.specs.Steps.{StepsInOrder};
-ghost use Rattle.exactly_once.specs.Versions.{VersionsKeep};
+ghost use Rattle.exactly_once.specs.Versions.{DecidedReadsStay, VersionsKeep};
 
 /// Of two invocations, one of mode R and one of mode W, the one whose Init comes first has ended before the other begins.
 pub fn modes_exclude()
@@ -106,4 +106,10 @@ pub fn exactly_once()
 /// Duplicates agree: whatever happened, the answers of each attempt are the first ones that its invocation has decided.
 pub fn duplicates_agree()
     ensures { AfterEvents DuplicatesAgree }
+{}
+
+/// Decided reads stay: a version put in at an old position changes no decided answer but that of a marker that nobody has
+/// adopted.
+pub fn decided_reads_stay()
+    ensures { DecidedReadsStay }
 {}
