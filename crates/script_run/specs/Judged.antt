@@ -1,0 +1,33 @@
+-- Operators, as they are judged: pieces that several of them share.
+use Rattle.std.specs.Prelude.{ℕ, Bool, cond, Option, Some, None, Result, Ok, Err, ℤ, pos, int_lt, int_div, int_rem}
+use Rattle.lb_base.specs.declared.value.Value.{Value}
+use Rattle.lb_base.specs.declared.value.Value.TheVariants.{Int, Text, Nothing}
+use Rattle.lb_base.specs.declared.value.TrapKind.{TrapKind}
+use Rattle.lb_base.specs.declared.value.TrapKind.TheVariants as trap
+use Rattle.boki_types.specs.declared.expr.BinOp.{BinOp}
+use Rattle.boki_types.specs.declared.expr.BinOp.TheVariants as op
+use Rattle.boki_model.specs.Maps.{before}
+use Rattle.boki_model.specs.Values.{same_int, divided}
+
+-- two integers, or two texts by their bytes
+abbrev pub is_less : Value → Value → Result Bool TrapKind
+is_less (Int m) (Int n) = Ok (int_lt m n)
+is_less (Text s) (Text t) = Ok (before s t)
+is_less _ _ = Err trap.Kind
+
+abbrev pub integers_of : Value → Value → Result (ℤ × ℤ) TrapKind
+integers_of (Int m) (Int n) = Ok (m, n)
+integers_of _ _ = Err trap.Kind
+
+-- an integer, where it kept the range of 64 bits
+abbrev pub ranged : Option ℤ → Result Value TrapKind
+ranged (Some n) = Ok (Int n)
+ranged None = Err trap.Overflow
+
+abbrev pub IsArithmetic : BinOp → Type 0
+IsArithmetic op.Add = Unit {0}
+IsArithmetic op.Sub = Unit {0}
+IsArithmetic op.Mul = Unit {0}
+IsArithmetic op.Div = Unit {0}
+IsArithmetic op.Rem = Unit {0}
+IsArithmetic _ = ⊥

@@ -1,0 +1,5 @@
+pub mod Gives
+pub mod Judged
+pub mod Pairs
+pub mod Places
+pub mod Standing

@@ -1,0 +1,164 @@
+//! Expressions in turn, and names: texts of 1 to 64 bytes.
+
+ghost use Rattle.std.specs.Prelude.{◌≡◌, List};
+ghost use Rattle.boki_model.specs.Values.{eval as eval_of, eval_all as eval_all_of, name_of as name_of_value, names_of as names_of_values, then_, condition as condition_of};
+ghost use Rattle.boki_model.specs.Script.{sides, seconds, left_of};
+ghost use Rattle.script_run.specs.Gives.{Gives};
+ghost use Rattle.script_run.specs.Pairs.{flat, written_of};
+
+use crate::conditions::condition;
+use crate::eval::eval;
+use crate::halt::Halt;
+use boki_types::Expr;
+use lb_base::{List, TrapKind, Value, Words};
+use std::alloc::Global;
+
+/// A value as a name.
+pub(crate) fn name_of(value: Value) -> Result<Words, Halt>
+    ensures { Gives (name_of_value value) result }
+{
+    match value {
+        Value::Text(text) => {
+            if 1 <= text.len() && text.len() <= 64 {
+                Ok(text)
+            } else {
+                Err(Halt::Trap(TrapKind::Key))
+            }
+        }
+        Value::Int(_) => Err(Halt::Trap(TrapKind::Key)),
+        Value::Nothing => Err(Halt::Trap(TrapKind::Key)),
+    }
+}
+
+/// The name that an expression gives.
+pub(crate) fn name_at(
+    alloc: Global,
+    x: &Expr,
+    variables: &[(Words, Value)],
+) -> Result<Words, Halt>
+    ensures { Gives (then_ (eval_of x.now variables.now) name_of_value) result }
+{
+    let value = eval(alloc, x, variables)?;
+    name_of(value)
+}
+
+/// The condition that an expression gives.
+pub(crate) fn test(alloc: Global, x: &Expr, variables: &[(Words, Value)]) -> Result<bool, Halt>
+    ensures { Gives (then_ (eval_of x.now variables.now) condition_of) result }
+{
+    let value = eval(alloc, x, variables)?;
+    condition(&value)
+}
+
+/// The values of expressions, from left to right.
+pub(crate) fn eval_all(
+    alloc: Global,
+    xs: &[Expr],
+    variables: &[(Words, Value)],
+) -> Result<List<Value>, Halt>
+    ensures { Gives (eval_all_of xs.now variables.now) result }
+{
+    let mut values = List::new(alloc);
+    for x in xs {
+        values.push(eval(alloc, x, variables)?)?;
+    }
+    Ok(values)
+}
+
+/// The values of the expressions beside names, from left to right.
+fn eval_seconds(
+    alloc: Global,
+    pairs: &[(Words, Expr)],
+    variables: &[(Words, Value)],
+) -> Result<List<Value>, Halt>
+    ensures { Gives (eval_all_of (seconds pairs.now) variables.now) result }
+{
+    let mut values = List::new(alloc);
+    for pair in pairs {
+        values.push(eval(alloc, &pair.1, variables)?)?;
+    }
+    Ok(values)
+}
+
+/// Two expressions' values, the left one first.
+pub(crate) fn eval_pair(
+    alloc: Global,
+    pair: &(Expr, Expr),
+    variables: &[(Words, Value)],
+) -> Result<(Value, Value), Halt>
+    ensures { Gives (then_ (eval_of pair.now.0 variables.now) (λ v. then_ (eval_of pair.now.1 variables.now) (λ w. Ok (v, w)))) result }
+{
+    let left = eval(alloc, &pair.0, variables)?;
+    let right = eval(alloc, &pair.1, variables)?;
+    Ok((left, right))
+}
+
+/// The values of both sides of each pair, from left to right.
+fn eval_sides(
+    alloc: Global,
+    pairs: &[(Expr, Expr)],
+    variables: &[(Words, Value)],
+) -> Result<Vec<(Value, Value)>, Halt>
+    ensures { Gives (eval_all_of (sides pairs.now) variables.now) (given flat result) }
+{
+    let mut values = Vec::new(alloc);
+    for pair in pairs {
+        values.push(eval_pair(alloc, pair, variables)?)?;
+    }
+    Ok(values)
+}
+
+/// Values as names, in their order.
+fn names_of(alloc: Global, values: List<Value>) -> Result<List<Words>, Halt>
+    ensures { Gives (names_of_values values) result }
+{
+    let mut names = List::new(alloc);
+    for value in values.into_vec() {
+        names.push(name_of(value)?)?;
+    }
+    Ok(names)
+}
+
+/// The names that the expressions beside variables give, all of which are worked out before the first is judged.
+pub(crate) fn names_at(
+    alloc: Global,
+    pairs: &[(Words, Expr)],
+    variables: &[(Words, Value)],
+) -> Result<List<Words>, Halt>
+    ensures { Gives (then_ (eval_all_of (seconds pairs.now) variables.now) names_of_values) result }
+{
+    let values = eval_seconds(alloc, pairs, variables)?;
+    names_of(alloc, values)
+}
+
+/// A name with what is written to it.
+fn named(pair: (Value, Value)) -> Result<(Words, Value), Halt>
+    ensures { Gives (then_ (name_of_value pair.0) (λ n. Ok (n, pair.1))) result }
+{
+    let (name, value) = pair;
+    let name = name_of(name)?;
+    Ok((name, value))
+}
+
+/// Names with what is written to them, from pairs of values.
+fn named_all(alloc: Global, pairs: Vec<(Value, Value)>) -> Result<List<(Words, Value)>, Halt>
+    ensures { Gives (written_of (flat pairs.items)) result }
+{
+    let mut writes = List::new(alloc);
+    for pair in pairs {
+        writes.push(named(pair)?)?;
+    }
+    Ok(writes)
+}
+
+/// The names and values of a commit, all of which are worked out before the first name is judged.
+pub(crate) fn writes_at(
+    alloc: Global,
+    pairs: &[(Expr, Expr)],
+    variables: &[(Words, Value)],
+) -> Result<List<(Words, Value)>, Halt>
+    ensures { Gives (then_ (eval_all_of (sides pairs.now) variables.now) written_of) result }
+{
+    let values = eval_sides(alloc, pairs, variables)?;
+    named_all(alloc, values)
+}
