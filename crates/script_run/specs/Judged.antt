@@ -1,5 +1,5 @@
 -- Operators, as they are judged: pieces that several of them share.
-use Rattle.std.specs.Prelude.{ℕ, Bool, cond, Option, Some, None, Result, Ok, Err, ℤ, pos, int_lt, int_div, int_rem}
+use Rattle.std.specs.Prelude.{ℕ, Bool, Option, Some, None, Result, Ok, Err, ℤ, int_lt}
 use Rattle.lb_base.specs.declared.value.Value.{Value}
 use Rattle.lb_base.specs.declared.value.Value.TheVariants.{Int, Text, Nothing}
 use Rattle.lb_base.specs.declared.value.TrapKind.{TrapKind}
@@ -7,7 +7,7 @@ use Rattle.lb_base.specs.declared.value.TrapKind.TheVariants as trap
 use Rattle.boki_types.specs.declared.expr.BinOp.{BinOp}
 use Rattle.boki_types.specs.declared.expr.BinOp.TheVariants as op
 use Rattle.boki_model.specs.Maps.{before}
-use Rattle.boki_model.specs.Values.{same_int, divided}
+
 
 -- two integers, or two texts by their bytes
 abbrev pub is_less : Value → Value → Result Bool TrapKind

@@ -1,12 +1,12 @@
 -- Where a name stands among variables.
-use Rattle.std.specs.Prelude.{ℕ, suc, ◌+◌, List, [], ◌∷◌, Result, Ok, Err}
+use Rattle.std.specs.Prelude.{ℕ, suc, List, [], ◌∷◌, Result, Ok, Err}
 use Rattle.std.specs.FinMap.Entries.{by_order}
 use Rattle.lb_base.specs.declared.value.Value.{Value}
 use Rattle.boki_model.specs.Maps.{key_order}
 
 abbrev pub shifted : Result ℕ ℕ → Result ℕ ℕ
-shifted (Ok n) = Ok (n + 1)
-shifted (Err n) = Err (n + 1)
+shifted (Ok n) = Ok (suc n)
+shifted (Err n) = Err (suc n)
 
 -- its place, from 0, or Err with the place where it is to be put in
 abbrev pub place_of : List ℕ → List (List ℕ × Value) → Result ℕ ℕ

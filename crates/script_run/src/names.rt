@@ -1,9 +1,9 @@
 //! Expressions in turn, and names: texts of 1 to 64 bytes.
 
-ghost use Rattle.std.specs.Prelude.{◌≡◌, List};
+ghost use Rattle.std.specs.Prelude.{◌≡◌, Ok};
 ghost use Rattle.boki_model.specs.Values.{eval as eval_of, eval_all as eval_all_of, name_of as name_of_value, names_of as names_of_values, then_, condition as condition_of};
-ghost use Rattle.boki_model.specs.Script.{sides, seconds, left_of};
-ghost use Rattle.script_run.specs.Gives.{Gives};
+ghost use Rattle.boki_model.specs.Script.{sides, seconds};
+ghost use Rattle.script_run.specs.Gives.{Gives, GivesAs};
 ghost use Rattle.script_run.specs.Pairs.{flat, written_of};
 
 use crate::conditions::condition;
@@ -98,10 +98,10 @@ fn eval_sides(
     alloc: Global,
     pairs: &[(Expr, Expr)],
     variables: &[(Words, Value)],
-) -> Result<Vec<(Value, Value)>, Halt>
-    ensures { Gives (eval_all_of (sides pairs.now) variables.now) (given flat result) }
+) -> Result<List<(Value, Value)>, Halt>
+    ensures { GivesAs flat (eval_all_of (sides pairs.now) variables.now) result }
 {
-    let mut values = Vec::new(alloc);
+    let mut values = List::new(alloc);
     for pair in pairs {
         values.push(eval_pair(alloc, pair, variables)?)?;
     }
@@ -141,11 +141,11 @@ fn named(pair: (Value, Value)) -> Result<(Words, Value), Halt>
 }
 
 /// Names with what is written to them, from pairs of values.
-fn named_all(alloc: Global, pairs: Vec<(Value, Value)>) -> Result<List<(Words, Value)>, Halt>
-    ensures { Gives (written_of (flat pairs.items)) result }
+fn named_all(alloc: Global, pairs: List<(Value, Value)>) -> Result<List<(Words, Value)>, Halt>
+    ensures { Gives (written_of (flat pairs)) result }
 {
     let mut writes = List::new(alloc);
-    for pair in pairs {
+    for pair in pairs.into_vec() {
         writes.push(named(pair)?)?;
     }
     Ok(writes)

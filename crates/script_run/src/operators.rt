@@ -1,9 +1,9 @@
 //! Operators between values. Each judges the kinds of its operands first, then a zero divisor, then the range.
 
-ghost use Rattle.std.specs.Prelude.{◌≡◌};
-ghost use Rattle.boki_model.specs.Values.{same_value, joined_texts, operate as operate_of, text_of as text_of_value, length_of as length_of_value};
+ghost use Rattle.std.specs.Prelude.{◌≡◌, int_div, int_rem};
+ghost use Rattle.boki_model.specs.Values.{same_value, divided, joined_texts, operate as operate_of, text_of as text_of_value, length_of as length_of_value};
 ghost use Rattle.script_run.specs.Gives.{Gives};
-ghost use Rattle.script_run.specs.Judged.{is_less as is_less_of, integers_of, ranged, quotient_of, remainder_of, IsArithmetic};
+ghost use Rattle.script_run.specs.Judged.{is_less as is_less_of, integers_of, ranged, IsArithmetic};
 
 use crate::conditions::truth;
 use crate::halt::Halt;
@@ -81,7 +81,7 @@ fn in_range(n: Option<i64>) -> Result<Value, Halt>
 
 /// The quotient, truncated toward zero.
 fn quotient(a: i64, b: i64) -> Result<Value, Halt>
-    ensures { Gives (quotient_of a b) result }
+    ensures { Gives (divided int_div a b) result }
 {
     if b == 0 {
         return Err(Halt::Trap(TrapKind::Divide));
@@ -91,7 +91,7 @@ fn quotient(a: i64, b: i64) -> Result<Value, Halt>
 
 /// The remainder, which has the sign of the dividend.
 fn remainder(a: i64, b: i64) -> Result<Value, Halt>
-    ensures { Gives (remainder_of a b) result }
+    ensures { Gives (divided int_rem a b) result }
 {
     if b == 0 {
         return Err(Halt::Trap(TrapKind::Divide));

@@ -12,7 +12,7 @@ use std::cmp::Ordering;
 pub(crate) fn look_up(name: &Words, variables: &[(Words, Value)]) -> Result<Value, Memory>
     ensures { IfOk result (λ value. value ≡ value_in name.now variables.now) }
 {
-    for (known, value) in variables {
+    'names: for (known, value) in variables {
         if name == known {
             return Ok(value.clone()?);
         }
