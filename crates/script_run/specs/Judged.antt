@@ -1,5 +1,5 @@
 -- Operators, as they are judged: pieces that several of them share.
-use Rattle.std.specs.Prelude.{ℕ, Bool, Option, Some, None, Result, Ok, Err, ℤ, int_lt}
+use Rattle.std.specs.Prelude.{ℕ, Bool, true, false, cond, Option, Some, None, Result, Ok, Err, ℤ, int_lt}
 use Rattle.lb_base.specs.declared.value.Value.{Value}
 use Rattle.lb_base.specs.declared.value.Value.TheVariants.{Int, Text, Nothing}
 use Rattle.lb_base.specs.declared.value.TrapKind.{TrapKind}
@@ -7,6 +7,7 @@ use Rattle.lb_base.specs.declared.value.TrapKind.TheVariants as trap
 use Rattle.boki_types.specs.declared.expr.BinOp.{BinOp}
 use Rattle.boki_types.specs.declared.expr.BinOp.TheVariants as op
 use Rattle.boki_model.specs.Maps.{before}
+use Rattle.boki_model.specs.Values.{then_, truth, condition, operate}
 
 
 -- two integers, or two texts by their bytes
@@ -31,3 +32,19 @@ IsArithmetic op.Mul = Unit {0}
 IsArithmetic op.Div = Unit {0}
 IsArithmetic op.Rem = Unit {0}
 IsArithmetic _ = ⊥
+
+-- what the left operand decides alone
+abbrev pub decided_of : BinOp → Value → Result (Option Value) TrapKind
+decided_of op.Or v = then_ (condition v) (λ c. Ok (cond c (Some (truth true)) None))
+decided_of op.And v = then_ (condition v) (λ c. Ok (cond c None (Some (truth false))))
+decided_of _ v = Ok None
+
+-- what both make, where it didn't
+abbrev pub judged_of : BinOp → Value → Value → Result Value TrapKind
+judged_of op.Or v w = then_ (condition w) (λ c. Ok (truth c))
+judged_of op.And v w = then_ (condition w) (λ c. Ok (truth c))
+judged_of o v w = operate o v w
+
+abbrev pub unless : Option Value → Result Value TrapKind → Result Value TrapKind
+unless (Some v) r = Ok v
+unless None r = r

@@ -5,14 +5,15 @@ ghost use Rattle.std.specs.Prelude.{◌≡◌};
 ghost use Rattle.boki_model.specs.Values.{eval as eval_of};
 ghost use Rattle.script_run.specs.Gives.{Gives};
 
-use crate::conditions::{condition, negated, truth};
+use crate::conditions::negated;
 use crate::halt::Halt;
-use crate::operators::{length_of, operate, text_of};
+use crate::operators::{decided, judged, length_of, text_of};
 use crate::variables::look_up;
-use boki_types::{BinOp, Expr};
+use boki_types::Expr;
 use lb_base::{Value, Words};
 use std::alloc::Global;
 
+#[tactic(auto, using(crate::proofs::Evals::evals))]
 /// The value of an expression.
 ///
 /// It calls itself as deep as the expression is.
@@ -32,31 +33,16 @@ pub(crate) fn eval(
             let value = eval(alloc, x.get(), variables)?;
             negated(&value)
         }
-        Expr::Two(op, x, y) => match *op {
-            BinOp::Or => {
-                let left = eval(alloc, x.get(), variables)?;
-                if condition(&left)? {
-                    return Ok(truth(true));
+        Expr::Two(op, x, y) => {
+            let left = eval(alloc, x.get(), variables)?;
+            match decided(*op, &left)? {
+                Some(value) => Ok(value),
+                None => {
+                    let right = eval(alloc, y.get(), variables)?;
+                    judged(*op, left, &right)
                 }
-                let right = eval(alloc, y.get(), variables)?;
-                let holds = condition(&right)?;
-                Ok(truth(holds))
             }
-            BinOp::And => {
-                let left = eval(alloc, x.get(), variables)?;
-                if !condition(&left)? {
-                    return Ok(truth(false));
-                }
-                let right = eval(alloc, y.get(), variables)?;
-                let holds = condition(&right)?;
-                Ok(truth(holds))
-            }
-            _ => {
-                let left = eval(alloc, x.get(), variables)?;
-                let right = eval(alloc, y.get(), variables)?;
-                operate(*op, left, &right)
-            }
-        },
+        }
         Expr::TextOf(x) => {
             let value = eval(alloc, x.get(), variables)?;
             text_of(alloc, value)

@@ -3,9 +3,9 @@
 ghost use Rattle.std.specs.Prelude.{◌≡◌, int_div, int_rem};
 ghost use Rattle.boki_model.specs.Values.{same_value, divided, joined_texts, operate as operate_of, text_of as text_of_value, length_of as length_of_value};
 ghost use Rattle.script_run.specs.Gives.{Gives};
-ghost use Rattle.script_run.specs.Judged.{is_less as is_less_of, integers_of, ranged, IsArithmetic};
+ghost use Rattle.script_run.specs.Judged.{is_less as is_less_of, integers_of, ranged, decided_of, judged_of, IsArithmetic};
 
-use crate::conditions::truth;
+use crate::conditions::{condition, truth};
 use crate::halt::Halt;
 use boki_types::BinOp;
 use lb_base::{TrapKind, Value, print_int};
@@ -137,7 +137,7 @@ fn computed(op: BinOp, left: &Value, right: &Value) -> Result<Value, Halt>
 }
 
 /// What an operator makes of its operands, both worked out.
-pub(crate) fn operate(op: BinOp, left: Value, right: &Value) -> Result<Value, Halt>
+fn operate(op: BinOp, left: Value, right: &Value) -> Result<Value, Halt>
     ensures { Gives (operate_of op left right.now) result }
 {
     match op {
@@ -164,6 +164,37 @@ pub(crate) fn operate(op: BinOp, left: Value, right: &Value) -> Result<Value, Ha
         BinOp::Add | BinOp::Sub | BinOp::Mul | BinOp::Div | BinOp::Rem => {
             computed(op, &left, right)
         }
+    }
+}
+
+/// The value that the left operand of `and` or `or` decides. It traps where it is no condition; of the other operators it
+/// decides nothing.
+pub(crate) fn decided(op: BinOp, left: &Value) -> Result<Option<Value>, Halt>
+    ensures { Gives (decided_of op left.now) result }
+{
+    match op {
+        BinOp::Or => {
+            let holds = condition(left)?;
+            if holds { Ok(Some(truth(true))) } else { Ok(None) }
+        }
+        BinOp::And => {
+            let holds = condition(left)?;
+            if holds { Ok(None) } else { Ok(Some(truth(false))) }
+        }
+        _ => Ok(None),
+    }
+}
+
+/// What an operator makes of its operands, where the left one didn't decide.
+pub(crate) fn judged(op: BinOp, left: Value, right: &Value) -> Result<Value, Halt>
+    ensures { Gives (judged_of op left right.now) result }
+{
+    match op {
+        BinOp::Or | BinOp::And => {
+            let holds = condition(right)?;
+            Ok(truth(holds))
+        }
+        _ => operate(op, left, right),
     }
 }
 
