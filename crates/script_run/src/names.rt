@@ -1,10 +1,8 @@
 //! Expressions in turn, and names: texts of 1 to 64 bytes.
 
-ghost use Rattle.std.specs.Prelude.{◌≡◌, Ok};
-ghost use Rattle.boki_model.specs.Values.{eval as eval_of, eval_all as eval_all_of, name_of as name_of_value, names_of as names_of_values, then_, condition as condition_of};
-ghost use Rattle.boki_model.specs.Script.{sides, seconds};
-ghost use Rattle.script_run.specs.Gives.{Gives, GivesAs};
-ghost use Rattle.script_run.specs.Pairs.{flat, written_of};
+ghost use Rattle.boki_model.specs.Values.{eval as eval_of, name_of as name_of_value, then_, condition as condition_of};
+ghost use Rattle.script_run.specs.Gives.{Gives};
+ghost use Rattle.script_run.specs.Pairs.{each_of, sides_of, named_of};
 
 use crate::conditions::condition;
 use crate::eval::eval;
@@ -56,10 +54,10 @@ pub(crate) fn eval_all(
     xs: &[Expr],
     variables: &[(Words, Value)],
 ) -> Result<List<Value>, Halt>
-    ensures { Gives (eval_all_of xs.now variables.now) result }
+    ensures { Gives (each_of (λ x. eval_of x variables.now) xs.now) result }
 {
     let mut values = List::new(alloc);
-    for x in xs {
+    'values: for x in xs {
         values.push(eval(alloc, x, variables)?)?;
     }
     Ok(values)
@@ -71,10 +69,10 @@ fn eval_seconds(
     pairs: &[(Words, Expr)],
     variables: &[(Words, Value)],
 ) -> Result<List<Value>, Halt>
-    ensures { Gives (eval_all_of (seconds pairs.now) variables.now) result }
+    ensures { Gives (each_of (λ pair. eval_of pair.1 variables.now) pairs.now) result }
 {
     let mut values = List::new(alloc);
-    for pair in pairs {
+    'pairs: for pair in pairs {
         values.push(eval(alloc, &pair.1, variables)?)?;
     }
     Ok(values)
@@ -86,7 +84,7 @@ pub(crate) fn eval_pair(
     pair: &(Expr, Expr),
     variables: &[(Words, Value)],
 ) -> Result<(Value, Value), Halt>
-    ensures { Gives (then_ (eval_of pair.now.0 variables.now) (λ v. then_ (eval_of pair.now.1 variables.now) (λ w. Ok (v, w)))) result }
+    ensures { Gives (sides_of variables.now pair.now) result }
 {
     let left = eval(alloc, &pair.0, variables)?;
     let right = eval(alloc, &pair.1, variables)?;
@@ -99,10 +97,10 @@ fn eval_sides(
     pairs: &[(Expr, Expr)],
     variables: &[(Words, Value)],
 ) -> Result<List<(Value, Value)>, Halt>
-    ensures { GivesAs flat (eval_all_of (sides pairs.now) variables.now) result }
+    ensures { Gives (each_of (sides_of variables.now) pairs.now) result }
 {
     let mut values = List::new(alloc);
-    for pair in pairs {
+    'pairs: for pair in pairs {
         values.push(eval_pair(alloc, pair, variables)?)?;
     }
     Ok(values)
@@ -110,10 +108,10 @@ fn eval_sides(
 
 /// Values as names, in their order.
 fn names_of(alloc: Global, values: List<Value>) -> Result<List<Words>, Halt>
-    ensures { Gives (names_of_values values) result }
+    ensures { Gives (each_of name_of_value values) result }
 {
     let mut names = List::new(alloc);
-    for value in values.into_vec() {
+    'names: for value in values.into_vec() {
         names.push(name_of(value)?)?;
     }
     Ok(names)
@@ -125,7 +123,7 @@ pub(crate) fn names_at(
     pairs: &[(Words, Expr)],
     variables: &[(Words, Value)],
 ) -> Result<List<Words>, Halt>
-    ensures { Gives (then_ (eval_all_of (seconds pairs.now) variables.now) names_of_values) result }
+    ensures { Gives (then_ (each_of (λ pair. eval_of pair.1 variables.now) pairs.now) (each_of name_of_value)) result }
 {
     let values = eval_seconds(alloc, pairs, variables)?;
     names_of(alloc, values)
@@ -133,7 +131,7 @@ pub(crate) fn names_at(
 
 /// A name with what is written to it.
 fn named(pair: (Value, Value)) -> Result<(Words, Value), Halt>
-    ensures { Gives (then_ (name_of_value pair.0) (λ n. Ok (n, pair.1))) result }
+    ensures { Gives (named_of pair) result }
 {
     let (name, value) = pair;
     let name = name_of(name)?;
@@ -142,10 +140,10 @@ fn named(pair: (Value, Value)) -> Result<(Words, Value), Halt>
 
 /// Names with what is written to them, from pairs of values.
 fn named_all(alloc: Global, pairs: List<(Value, Value)>) -> Result<List<(Words, Value)>, Halt>
-    ensures { Gives (written_of (flat pairs)) result }
+    ensures { Gives (each_of named_of pairs) result }
 {
     let mut writes = List::new(alloc);
-    for pair in pairs.into_vec() {
+    'writes: for pair in pairs.into_vec() {
         writes.push(named(pair)?)?;
     }
     Ok(writes)
@@ -157,7 +155,7 @@ pub(crate) fn writes_at(
     pairs: &[(Expr, Expr)],
     variables: &[(Words, Value)],
 ) -> Result<List<(Words, Value)>, Halt>
-    ensures { Gives (then_ (eval_all_of (sides pairs.now) variables.now) written_of) result }
+    ensures { Gives (then_ (each_of (sides_of variables.now) pairs.now) (each_of named_of)) result }
 {
     let values = eval_sides(alloc, pairs, variables)?;
     named_all(alloc, values)
