@@ -3,3 +3,4 @@ pub mod Judged
 pub mod Pairs
 pub mod Places
 pub mod Standing
+pub mod Asking

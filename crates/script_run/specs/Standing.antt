@@ -14,6 +14,7 @@ use Rattle.boki_types.specs.declared.operation.Answer.TheVariants as a
 use Rattle.boki_types.specs.Finding.{function_at}
 use Rattle.boki_model.specs.Script as script
 use Rattle.boki_model.specs.Script.{firsts}
+use Rattle.script_run.specs.declared.state.State.{State}
 use Rattle.script_run.specs.declared.state.Block.{Block}
 use Rattle.script_run.specs.declared.state.Block.TheVariants as b
 
@@ -50,3 +51,19 @@ target_of _ = script.Nowhere
 abbrev pub stands_at : List Stmt → Ask → ℕ → script.State → script.Standing
 stands_at lines (k.Op op) at t = script.Asks op (target_of (slice_get lines at)) (drop (at + 1) lines) t
 stands_at lines (k.Done outcome) at t = script.Ended outcome
+
+-- what a script has made so far, as a frame keeps it
+pub record Made : Type 0 where
+  pub variables : List (List ℕ × Value)
+  pub blocks : List Block
+  pub spawned : ℕ
+  pub transaction : Option (List (List ℕ))
+
+abbrev pub made_of : State → Made
+made_of m = record { variables = m.variables.items; blocks = m.blocks.items; spawned = m.spawned; transaction = m.transaction }
+
+abbrev pub state_from : List Stmt → Made → script.State
+state_from lines m = record { variables = m.variables; blocks = blocks_of lines m.blocks; spawned = m.spawned; transaction = m.transaction }
+
+abbrev pub state_of : List Stmt → State → script.State
+state_of lines m = state_from lines (made_of m)

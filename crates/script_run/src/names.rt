@@ -2,7 +2,7 @@
 
 ghost use Rattle.boki_model.specs.Values.{eval as eval_of, name_of as name_of_value, then_, condition as condition_of};
 ghost use Rattle.script_run.specs.Gives.{Gives};
-ghost use Rattle.script_run.specs.Pairs.{each_of, sides_of, named_of};
+ghost use Rattle.script_run.specs.Pairs.{each_of, value_of, second_of, sides_of, named_of};
 
 use crate::conditions::condition;
 use crate::eval::eval;
@@ -54,7 +54,7 @@ pub(crate) fn eval_all(
     xs: &[Expr],
     variables: &[(Words, Value)],
 ) -> Result<List<Value>, Halt>
-    ensures { Gives (each_of (λ x. eval_of x variables.now) xs.now) result }
+    ensures { Gives (each_of (value_of variables.now) xs.now) result }
 {
     let mut values = List::new(alloc);
     'values: for x in xs {
@@ -69,7 +69,7 @@ fn eval_seconds(
     pairs: &[(Words, Expr)],
     variables: &[(Words, Value)],
 ) -> Result<List<Value>, Halt>
-    ensures { Gives (each_of (λ pair. eval_of pair.1 variables.now) pairs.now) result }
+    ensures { Gives (each_of (second_of variables.now) pairs.now) result }
 {
     let mut values = List::new(alloc);
     'pairs: for pair in pairs {
@@ -123,7 +123,7 @@ pub(crate) fn names_at(
     pairs: &[(Words, Expr)],
     variables: &[(Words, Value)],
 ) -> Result<List<Words>, Halt>
-    ensures { Gives (then_ (each_of (λ pair. eval_of pair.1 variables.now) pairs.now) (each_of name_of_value)) result }
+    ensures { Gives (then_ (each_of (second_of variables.now) pairs.now) (each_of name_of_value)) result }
 {
     let values = eval_seconds(alloc, pairs, variables)?;
     names_of(alloc, values)

@@ -1,11 +1,9 @@
 //! Lines that ask an operation. All of a line's expressions are worked out first; then comes the first name that isn't one,
 //! and then what the operation itself forbids.
 
-ghost use Rattle.std.specs.Prelude.{◌≡◌, ◌<◌, ◌^◌, ◌+◌, List, length, IfOk};
-ghost use Rattle.boki_types.specs.declared.program.Stmt.{Stmt};
-ghost use Rattle.boki_model.specs.Script.{execute};
-ghost use Rattle.script_run.specs.Standing.{state_of};
-ghost use Rattle.script_run.specs.Asking.{AsksAt, IsSmallOp};
+ghost use Rattle.std.specs.Prelude.{◌<◌, ◌^◌, length, IfOk};
+ghost use Rattle.script_run.specs.Gives.{Gives};
+ghost use Rattle.script_run.specs.Asking.{name_and_value_of, pushed_of, spawned_of, joined_of, begun_of, committed_of, operation_of, AsksOperation, IsSmall};
 
 use crate::copies::copy_names;
 use crate::eval::eval;
@@ -28,7 +26,9 @@ fn name_and_value(
     x: &Expr,
     y: &Expr,
     variables: &[(Words, Value)],
-) -> Result<(Words, Value), Halt> {
+) -> Result<(Words, Value), Halt>
+    ensures { Gives (name_and_value_of x.now y.now variables.now) result }
+{
     let name = eval(alloc, x, variables)?;
     let value = eval(alloc, y, variables)?;
     let name = name_of(name)?;
@@ -36,7 +36,10 @@ fn name_and_value(
 }
 
 /// What a push asks: a value that isn't none.
-fn pushed(queue: Words, value: Value) -> Result<Op, Halt> {
+fn pushed(queue: Words, value: Value) -> Result<Op, Halt>
+    ensures gives { Gives (pushed_of queue value) result }
+    ensures small { IfOk result IsSmall }
+{
     match value {
         Value::Nothing => Err(Halt::Trap(TrapKind::Kind)),
         Value::Int(n) => Ok(Op::Push {
@@ -60,6 +63,8 @@ fn spawned(
 ) -> Result<Op, Halt>
     requires few { spawned < 4096 }
     requires functions { length program.now.functions < 2 ^ 32 }
+    ensures gives { Gives (spawned_of program.now.functions depth function.now spawned args) result }
+    ensures small { IfOk result IsSmall }
 {
     let ordinal = spawned + 1;
     if depth == DEEPEST || ordinal == TOO_MANY {
@@ -74,7 +79,10 @@ fn spawned(
 }
 
 /// What a join asks: a child that was spawned.
-fn joined(value: &Value, spawned: u32) -> Result<Op, Halt> {
+fn joined(value: &Value, spawned: u32) -> Result<Op, Halt>
+    ensures gives { Gives (joined_of spawned value.now) result }
+    ensures small { IfOk result IsSmall }
+{
     match value {
         Value::Int(n) => {
             if 1 <= *n && *n <= i64::from(spawned) {
@@ -89,7 +97,10 @@ fn joined(value: &Value, spawned: u32) -> Result<Op, Halt> {
 }
 
 /// What a begin asks, where no transaction is open.
-fn begun(names: List<Words>, transaction: &Option<List<Words>>) -> Result<Op, Halt> {
+fn begun(names: List<Words>, transaction: &Option<List<Words>>) -> Result<Op, Halt>
+    ensures gives { Gives (begun_of transaction.now names) result }
+    ensures small { IfOk result IsSmall }
+{
     match transaction {
         None => Ok(Op::Begin { names }),
         Some(_) => Err(Halt::Trap(TrapKind::Txn)),
@@ -100,29 +111,16 @@ fn begun(names: List<Words>, transaction: &Option<List<Words>>) -> Result<Op, Ha
 fn committed(
     writes: List<(Words, Value)>,
     transaction: &Option<List<Words>>,
-) -> Result<Op, Halt> {
+) -> Result<Op, Halt>
+    ensures gives { Gives (committed_of transaction.now writes) result }
+    ensures small { IfOk result IsSmall }
+{
     match transaction {
         None => Err(Halt::Trap(TrapKind::Txn)),
         Some(names) => {
             let names = copy_names(names)?;
             Ok(Op::Commit { names, writes })
         }
-    }
-}
-
-/// Whether a line asks an operation.
-pub(crate) fn is_operation(line: &Stmt) -> bool {
-    match line {
-        Stmt::Read(..)
-        | Stmt::Write(..)
-        | Stmt::Spawn(..)
-        | Stmt::Join(..)
-        | Stmt::Push(..)
-        | Stmt::Pop(..)
-        | Stmt::Begin(..)
-        | Stmt::Commit(..)
-        | Stmt::ReadAll(..) => true,
-        _ => false,
     }
 }
 
@@ -134,7 +132,10 @@ pub(crate) fn operation(
     line: &Stmt,
     state: &State,
 ) -> Result<Op, Halt>
-    requires { length program.now.functions < 2 ^ 32 }
+    requires functions { length program.now.functions < 2 ^ 32 }
+    requires asks { AsksOperation line.now }
+    ensures gives { Gives (operation_of program.now.functions depth line.now state.now.variables.items state.now.spawned state.now.transaction) result }
+    ensures small { IfOk result IsSmall }
 {
     let variables = state.variables.as_slice();
     match line {

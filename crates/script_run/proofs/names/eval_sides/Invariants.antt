@@ -1,5 +1,4 @@
 use Rattle.std.proofs.Common.{◌≡◌, drop}
-use Rattle.boki_model.specs.Values.{eval}
 use Rattle.script_run.specs.Pairs.{each_of, sides_of}
 use Rattle.script_run.proofs.Each.{behind_list}
 use Rattle.script_run.proofs.names.eval_sides.Given as goal
