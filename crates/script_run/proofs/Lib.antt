@@ -1,3 +1,5 @@
 pub mod Lookups
 pub mod Evals
 pub mod Each
+pub mod Blocks
+pub mod Asks

@@ -4,3 +4,4 @@ pub mod Pairs
 pub mod Places
 pub mod Standing
 pub mod Asking
+pub mod Flows

@@ -1,7 +1,8 @@
 -- What a frame keeps, and where the script stands by it.
-use Rattle.std.specs.Prelude.{◌≡◌, ◌<◌, ℕ, ◌+◌, List, [], ◌∷◌, Option, Some, None, Bool, true, false, slice_get, drop, length, ◌==◌}
+use Rattle.std.specs.Prelude.{◌≡◌, ◌<◌, ℕ, ◌+◌, List, [], ◌∷◌, Option, Some, None, Bool, true, false, slice_get, drop, option_and_then}
 use Rattle.lb_base.specs.declared.value.Value.{Value}
 use Rattle.lb_base.specs.declared.value.Outcome.{Outcome}
+use Rattle.boki_types.specs.declared.expr.Expr.{Expr}
 use Rattle.boki_types.specs.declared.program.Stmt.{Stmt}
 use Rattle.boki_types.specs.declared.program.Stmt.TheVariants as s
 use Rattle.boki_types.specs.declared.program.Function.{Function}
@@ -18,15 +19,20 @@ use Rattle.script_run.specs.declared.state.State.{State}
 use Rattle.script_run.specs.declared.state.Block.{Block}
 use Rattle.script_run.specs.declared.state.Block.TheVariants as b
 
--- the loop of a `while`, with the lines behind it
-abbrev pub loop_at : Option Stmt → List Stmt → script.Block
-loop_at (Some (s.While e)) body = script.Loop e body
-loop_at _ body = script.Branch
+-- the condition of a `while`
+abbrev pub while_of : Stmt → Option Expr
+while_of (s.While e) = Some e
+while_of _ = None
+
+-- the loop of such a line, with the lines behind it
+abbrev pub loop_of : Option Expr → List Stmt → script.Block
+loop_of (Some e) body = script.Loop e body
+loop_of None body = script.Branch
 
 -- a block, whose loop is given by the number of its line
 abbrev pub block_of : List Stmt → Block → script.Block
 block_of lines b.Branch = script.Branch
-block_of lines (b.Loop at) = loop_at (slice_get lines at) (drop (at + 1) lines)
+block_of lines (b.Loop at) = loop_of (option_and_then while_of (slice_get lines at)) (drop (at + 1) lines)
 
 -- blocks, of which the innermost stands last, before these
 abbrev pub blocks_before : List Stmt → List script.Block → List Block → List script.Block
