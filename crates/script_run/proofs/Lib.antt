@@ -3,3 +3,4 @@ pub mod Evals
 pub mod Each
 pub mod Blocks
 pub mod Asks
+pub mod Goes

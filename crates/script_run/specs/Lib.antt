@@ -5,3 +5,4 @@ pub mod Places
 pub mod Standing
 pub mod Asking
 pub mod Flows
+pub mod Running

@@ -11,7 +11,7 @@ ghost use Rattle.boki_model.specs.Values.{eval as eval_of};
 ghost use Rattle.boki_model.specs.Script as script;
 ghost use Rattle.script_run.specs.Standing.{state_of, while_of};
 ghost use Rattle.script_run.specs.Asking.{AsksOperation};
-ghost use Rattle.script_run.specs.Flows.{Leads, IsSmallAsk, flow_of};
+ghost use Rattle.script_run.specs.Flows.{Leads, IsSmallAsk, Enters, flow_of};
 
 use crate::eval::eval;
 use crate::halt::Halt;
@@ -38,7 +38,8 @@ pub(crate) enum Flow {
 
 /// Sets a variable.
 fn set(alloc: Global, name: &Words, x: &Expr, state: &mut State) -> Result<Flow, Halt>
-    ensures { (lines : List Stmt) (at : ℕ) (ask : Ask) → Leads (script.or_trap (eval_of x.now state.old.variables.items) (λ v. script.Next (script.set name.now v (state_of lines state.old)))) lines at ask (state_of lines state.new) result }
+    ensures leads { (lines : List Stmt) (at : ℕ) (ask : Ask) → Leads (script.or_trap (eval_of x.now state.old.variables.items) (λ v. script.Next (script.set name.now v (state_of lines state.old)))) lines at ask (state_of lines state.new) result }
+    ensures enters { (count : ℕ) → IfOk result (Enters count) }
 {
     let value = eval(alloc, x, state.variables.as_slice())?;
     put(&mut state.variables, name, value)?;
@@ -47,7 +48,8 @@ fn set(alloc: Global, name: &Words, x: &Expr, state: &mut State) -> Result<Flow,
 
 /// Opens a branch where a test holds.
 fn branch(alloc: Global, x: &Expr, state: &mut State) -> Result<Flow, Halt>
-    ensures { (lines : List Stmt) (at : ℕ) (ask : Ask) → Leads (script.tested x.now (state_of lines state.old) (λ b. cond b (script.Next (script.opened script.Branch (state_of lines state.old))) (script.Skip (state_of lines state.old)))) lines at ask (state_of lines state.new) result }
+    ensures leads { (lines : List Stmt) (at : ℕ) (ask : Ask) → Leads (script.tested x.now (state_of lines state.old) (λ b. cond b (script.Next (script.opened script.Branch (state_of lines state.old))) (script.Skip (state_of lines state.old)))) lines at ask (state_of lines state.new) result }
+    ensures enters { (count : ℕ) → IfOk result (Enters count) }
 {
     if test(alloc, x, state.variables.as_slice())? {
         state.blocks.push(Block::Branch)?;
@@ -59,7 +61,8 @@ fn branch(alloc: Global, x: &Expr, state: &mut State) -> Result<Flow, Halt>
 
 /// Opens the loop of a line where its test holds.
 fn first_entry(alloc: Global, x: &Expr, at: usize, state: &mut State) -> Result<Flow, Halt>
-    ensures { (lines : List Stmt) (ask : Ask) → slice_get lines at ≡ Some (statement.While x.now) → Leads (script.tested x.now (state_of lines state.old) (λ b. cond b (script.Enter (drop (at + 1) lines) (script.opened (script.Loop x.now (drop (at + 1) lines)) (state_of lines state.old))) (script.Skip (state_of lines state.old)))) lines at ask (state_of lines state.new) result }
+    ensures leads { (lines : List Stmt) (ask : Ask) → slice_get lines at ≡ Some (statement.While x.now) → Leads (script.tested x.now (state_of lines state.old) (λ b. cond b (script.Enter (drop (at + 1) lines) (script.opened (script.Loop x.now (drop (at + 1) lines)) (state_of lines state.old))) (script.Skip (state_of lines state.old)))) lines at ask (state_of lines state.new) result }
+    ensures enters { (count : ℕ) → at < count → IfOk result (Enters count) }
 {
     if test(alloc, x, state.variables.as_slice())? {
         state.blocks.push(Block::Loop(at))?;
@@ -105,7 +108,8 @@ fn loop_test(lines: &[Stmt], at: usize) -> Option<&Expr>
 
 /// Ends a loop's turn: the loop tests its condition again, and is closed where that fails.
 fn end_turn(alloc: Global, x: &Expr, loop_at: usize, state: &mut State) -> Result<Flow, Halt>
-    ensures { (lines : List Stmt) (at : ℕ) (ask : Ask) → Leads (script.tested x.now (state_of lines state.old) (λ b. cond b (script.Enter (drop (loop_at + 1) lines) (state_of lines state.old)) (script.Next (script.closed (state_of lines state.old))))) lines at ask (state_of lines state.new) result }
+    ensures leads { (lines : List Stmt) (at : ℕ) (ask : Ask) → Leads (script.tested x.now (state_of lines state.old) (λ b. cond b (script.Enter (drop (loop_at + 1) lines) (state_of lines state.old)) (script.Next (script.closed (state_of lines state.old))))) lines at ask (state_of lines state.new) result }
+    ensures enters { (count : ℕ) → loop_at < count → IfOk result (Enters count) }
 {
     if test(alloc, x, state.variables.as_slice())? {
         Ok(Flow::Enter(loop_at))
@@ -117,7 +121,8 @@ fn end_turn(alloc: Global, x: &Expr, loop_at: usize, state: &mut State) -> Resul
 
 /// Ends the innermost block.
 fn end_block(alloc: Global, lines: &[Stmt], state: &mut State) -> Result<Flow, Halt>
-    ensures { (at : ℕ) (ask : Ask) → Leads (script.ends (state_of lines.now state.old).blocks (state_of lines.now state.old)) lines.now at ask (state_of lines.now state.new) result }
+    ensures leads { (at : ℕ) (ask : Ask) → Leads (script.ends (state_of lines.now state.old).blocks (state_of lines.now state.old)) lines.now at ask (state_of lines.now state.new) result }
+    ensures enters { IfOk result (Enters (length lines.now)) }
 {
     match innermost(state.blocks.as_slice()) {
         None => Ok(Flow::Next),
@@ -139,6 +144,7 @@ fn end_block(alloc: Global, lines: &[Stmt], state: &mut State) -> Result<Flow, H
 fn give_back(alloc: Global, x: &Expr, state: &State, ask: &mut Ask) -> Result<Flow, Halt>
     ensures leads { (lines : List Stmt) (at : ℕ) → Leads (script.or_trap (eval_of x.now state.now.variables.items) (λ v. script.Stop (script.Ended (Good v)))) lines at ask.new (state_of lines state.now) result }
     ensures small { OnOk result (IsSmallAsk ask.new) }
+    ensures enters { (count : ℕ) → IfOk result (Enters count) }
 {
     let value = eval(alloc, x, state.variables.as_slice())?;
     *ask = Ask::Done(Outcome::Good(value));
@@ -158,6 +164,7 @@ fn stop(
     requires asks { AsksOperation line.now }
     ensures leads { (lines : List Stmt) (at : ℕ) → slice_get lines at ≡ Some line.now → Leads (script.execute program.now.functions depth line.now (drop (at + 1) lines) (state_of lines state.now)) lines at ask.new (state_of lines state.now) result }
     ensures small { OnOk result (IsSmallAsk ask.new) }
+    ensures enters { (count : ℕ) → IfOk result (Enters count) }
 {
     *ask = Ask::Op(operation(alloc, program, depth, line, state)?);
     Ok(Flow::Stop)
@@ -178,6 +185,7 @@ fn execute(
     requires small { IsSmallAsk ask.old }
     ensures leads { (line : Stmt) → slice_get lines.now at ≡ Some line → Leads (script.execute program.now.functions depth line (drop (at + 1) lines.now) (state_of lines.now state.old)) lines.now at ask.new (state_of lines.now state.new) result }
     ensures small { OnOk result (IsSmallAsk ask.new) }
+    ensures enters { IfOk result (Enters (length lines.now)) }
 {
     match &lines[at] {
         Stmt::Let(name, x) => set(alloc, name, x, state),
@@ -208,6 +216,7 @@ pub(crate) fn step(
     requires small { IsSmallAsk ask.old }
     ensures leads { IfOk result (λ flow. (line : Stmt) → slice_get lines.now at ≡ Some line → script.execute program.now.functions depth line (drop (at + 1) lines.now) (state_of lines.now state.old) ≡ flow_of lines.now at ask.new (state_of lines.now state.new) flow) }
     ensures small { OnOk result (IsSmallAsk ask.new) }
+    ensures enters { IfOk result (Enters (length lines.now)) }
 {
     match execute(alloc, program, depth, lines, at, state, ask) {
         Ok(flow) => Ok(flow),

@@ -7,8 +7,8 @@ use Rattle.script_run.specs.Standing.{state_of, block_of, blocks_of, loop_of}
 use Rattle.script_run.proofs.Blocks.{ends_last}
 use Rattle.script_run.proofs.execute.end_block.Goals as goal
 
-pub returns-in-Some-Branch : goal.returns-in-Some-Branch
-returns-in-Some-Branch c = λ at ask.
+pub returns-in-Some-Branch-clause-leads : goal.returns-in-Some-Branch-clause-leads
+returns-in-Some-Branch-clause-leads c = λ at ask.
     let lines = c.args.lines.now in
     let t = state_of lines c.args.state.now in
     let h = c.in-Some-Branch.ensures in
@@ -16,8 +16,8 @@ returns-in-Some-Branch c = λ at ask.
     ∙ ap (λ (b : Block). script.ends (block_of lines b ∷ blocks_of lines h.0) t) c.in-Some-Branch.field-0-is
     ∙ ap script.Next (sym (c.close.ensures lines))
 
-pub returns-in-Some : goal.returns-in-Some
-returns-in-Some c = λ at ask.
+pub returns-in-Some-clause-leads : goal.returns-in-Some-clause-leads
+returns-in-Some-clause-leads c = λ at ask.
     let lines = c.args.lines.now in
     let t = state_of lines c.args.state.now in
     let h = c.in-Some-Loop.ensures in
@@ -25,10 +25,10 @@ returns-in-Some c = λ at ask.
     let is = ends_last lines c.args.state.now.blocks.items h.0 c.in-Some-Loop.field-0 t (sym c.as_slice.ensures.value ∙ h.1)
         ∙ ap (λ (b : Block). script.ends (block_of lines b ∷ blocks_of lines h.0) t) c.in-Some-Loop.field-0-is
         ∙ ap (λ (o : Option Expr). script.ends (loop_of o body ∷ blocks_of lines h.0) t) (sym c.in-Some.ensures) in
-    subst (λ flow. Leads flow lines at ask (state_of lines c.end_turn.new.state) c.end_turn.result) (sym is) (c.end_turn.ensures lines at ask)
+    subst (λ flow. Leads flow lines at ask (state_of lines c.end_turn.new.state) c.end_turn.result) (sym is) (c.end_turn.ensures.leads lines at ask)
 
-pub returns-in-None-loop_test : goal.returns-in-None-loop_test
-returns-in-None-loop_test c = λ at ask.
+pub returns-in-None-loop_test-clause-leads : goal.returns-in-None-loop_test-clause-leads
+returns-in-None-loop_test-clause-leads c = λ at ask.
     let lines = c.args.lines.now in
     let t = state_of lines c.args.state.now in
     let h = c.in-Some-Loop.ensures in

@@ -6,8 +6,8 @@ use Rattle.script_run.specs.Standing.{made_of, state_of, loop_of, while_of}
 use Rattle.script_run.proofs.Blocks.{pushed_state, tested_is}
 use Rattle.script_run.proofs.execute.first_entry.Goals as goal
 
-pub returns-in_ok-push : goal.returns-in_ok-push
-returns-in_ok-push c = λ lines ask is.
+pub returns-in_ok-push-clause-leads : goal.returns-in_ok-push-clause-leads
+returns-in_ok-push-clause-leads c = λ lines ask is.
     let t = state_of lines c.args.state.now in
     let body = drop (c.args.at + 1) lines in
     let f = λ (holds : Bool). cond holds (script.Enter body (script.opened (script.Loop c.args.x.now body) t)) (script.Skip t) in
