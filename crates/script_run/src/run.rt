@@ -1,6 +1,6 @@
 //! Runs: from a place in the lines on, up to the next operation or to the end.
 
-ghost use Rattle.std.specs.Prelude.{◌≡◌, ◌<◌, ◌+◌, ◌-◌, ◌*◌, ◌^◌, length, drop, IfOk, OnOk, MatchBool, OnTrue};
+ghost use Rattle.std.specs.Prelude.{◌≡◌, ◌<◌, ◌+◌, ◌-◌, ◌*◌, ◌^◌, length, drop, IfOk, OnOk, MatchBool};
 ghost use Rattle.boki_model.specs.Script as script;
 ghost use Rattle.script_run.specs.Standing.{state_of, stands_at};
 ghost use Rattle.script_run.specs.Flows.{IsSmallAsk};
