@@ -4,3 +4,4 @@ pub mod Each
 pub mod Blocks
 pub mod Asks
 pub mod Goes
+pub mod Sets

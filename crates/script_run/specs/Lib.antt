@@ -6,3 +6,5 @@ pub mod Standing
 pub mod Asking
 pub mod Flows
 pub mod Running
+pub mod Answering
+pub mod Frames
