@@ -41,12 +41,40 @@ fn program(alloc: Global, params: &[&str], lines: Vec<Stmt>) -> Result<Program, 
     Ok(Program { functions })
 }
 
+/// Lines in a vector.
+fn lines3(alloc: Global, first: Stmt, second: Stmt, third: Stmt) -> Result<Vec<Stmt>, Memory> {
+    let mut lines = Vec::new(alloc);
+    lines.push(first)?;
+    lines.push(second)?;
+    lines.push(third)?;
+    Ok(lines)
+}
+
+/// The first ask of a function of these lines, with no parameters.
+fn starts(alloc: Global, lines: Vec<Stmt>, depth: u8) -> Result<Frame, Memory>
+{
+    let program = program(alloc, &[], lines)?;
+    Frame::new(alloc, &program, 0, &[], depth)
+}
+
+fn one(alloc: Global, line: Stmt) -> Result<Vec<Stmt>, Memory> {
+    let mut lines = Vec::new(alloc);
+    lines.push(line)?;
+    Ok(lines)
+}
+
+/// A function of one line ends in this trap.
+fn traps(rt: &impl Abort, alloc: Global, line: Stmt, depth: u8, kind: TrapKind) -> Result<(), Memory> {
+    let frame = starts(alloc, one(alloc, line)?, depth)?;
+    assert!(rt; *frame.ask() == Ask::Done(Outcome::Trap(kind)));
+    Ok(())
+}
+
 #[test]
 fn adds_one(rt: HostRuntime) -> Result<(), Fail> {
     let alloc = rt.alloc();
-    let mut lines = Vec::new(alloc);
-    lines.push(Stmt::Return(two(alloc, BinOp::Add, var(alloc, "a")?, Expr::Int(1))?))?;
-    let program = program(alloc, &["a"], lines)?;
+    let sum = two(alloc, BinOp::Add, var(alloc, "a")?, Expr::Int(1))?;
+    let program = program(alloc, &["a"], one(alloc, Stmt::Return(sum))?)?;
     let frame = Frame::new(alloc, &program, 0, &[Value::Int(4)], 1)?;
     let copy = frame.copy(alloc)?;
     assert!(rt; *copy.ask() == Ask::Done(Outcome::Good(Value::Int(5))));
