@@ -1,5 +1,5 @@
 -- Frames: the function that a frame is of, its start, and what an answer makes of it.
-use Rattle.std.proofs.Common.{◌≡◌, ◌<◌, ◌≤◌, ◌∙◌, ap, sym, subst, refl, ℕ, zero, suc, ◌+◌, ◌==◌, List, [], ◌∷◌, length, get_or, slice_get, drop, Bool, true, cond, Option, Some, None, option_map, option_and_then, arith}
+use Rattle.std.proofs.Common.{◌≡◌, ◌<◌, ◌≤◌, ◌∙◌, ap, sym, refl, ℕ, zero, suc, ◌+◌, List, [], ◌∷◌, length, get_or, slice_get, drop, Bool, cond, Option, Some, None, option_map, option_and_then, arith}
 use Rattle.std.proofs.lemmas.Bool.Decides.{Decides-eqb}
 use Rattle.lb_base.specs.declared.value.Value.{Value}
 use Rattle.lb_base.specs.declared.value.TrapKind.{TrapKind}
@@ -16,10 +16,6 @@ use Rattle.script_run.specs.Answering.{received, put_each}
 use Rattle.script_run.specs.Frames.{Kept, Stands, standing_of, lines_of}
 use Rattle.script_run.proofs.Sets.{set_each_is}
 
-pub function_at-get : (n : ℕ) (fs : List Function) → function_at n fs ≡ slice_get fs n
-function_at-get n [] = refl
-function_at-get zero (f ∷ fs) = refl
-function_at-get (suc n) (f ∷ fs) = function_at-get n fs
 
 pub function_is : (n : ℕ) (fs : List Function) (f : Function) → n < length fs → f ≡ get_or fs n f → function_at n fs ≡ Some f
 function_is n [] f within is = absurd (omega arith)

@@ -1,4 +1,4 @@
-ghost use Rattle.std.specs.Prelude.{◌≡◌, ◌<◌, ◌^◌, ℕ, List, [], ◌∷◌, length, Some, slice_get, IfOk, OnOk, OnErr};
+ghost use Rattle.std.specs.Prelude.{◌≡◌, ◌↔◌, ◌<◌, ◌^◌, ℕ, List, [], ◌∷◌, length, Some, slice_get, IsTrue, IfOk, OnOk, OnErr};
 ghost use Rattle.std.specs.Option.{option_copied};
 ghost use Rattle.lb_base.specs.declared.value.Value.{Value};
 ghost use Rattle.boki_types.specs.declared.operation.Answer.{Answer};
@@ -10,7 +10,7 @@ ghost use Rattle.script_run.specs.Answering.{Takes};
 ghost use Rattle.script_run.specs.Frames.{Stands, lines_of as lines_of_function};
 ghost use Rattle.script_run.specs.Standing.{state_of};
 
-use crate::answers::{receive, set_each};
+use crate::answers::{is_of_kind, receive, set_each};
 use crate::copies::{copy_ask, copy_state};
 use crate::run::run;
 use crate::state::State;
@@ -84,6 +84,16 @@ impl Frame {
         ensures asked { (functions : List Function) (function : ℕ) (args : List Value) (depth : ℕ) (answers : List Answer) → Stands functions function args depth answers self.now → script.asked functions function args depth answers ≡ Some result.now }
     {
         &self.ask
+    }
+
+    /// Whether an operation is asked and the answer is of its kind, as `give` needs. It takes no memory.
+    pub fn takes(&self, answer: &Answer) -> bool
+        ensures { IsTrue result ↔ Takes self.now.ask answer.now }
+    {
+        match &self.ask {
+            Ask::Op(operation) => is_of_kind(operation, answer),
+            Ask::Done(_) => false,
+        }
     }
 
     /// Hands the script the answer of the operation that it asks, and runs it on from there, to its next operation or to its

@@ -1,4 +1,4 @@
-use Rattle.std.proofs.Common.{◌+◌, ◌∙◌, ap, sym, subst, List, Option, Some, drop, refl}
+use Rattle.std.proofs.Common.{◌+◌, ◌∙◌, ap, sym, subst, List, Option, drop, refl}
 use Rattle.std.specs.Option.{option_copied}
 use Rattle.lb_base.specs.declared.value.TrapKind.{TrapKind}
 use Rattle.lb_base.specs.declared.value.Outcome.TheVariants.{Trap}
