@@ -57,11 +57,10 @@ fn line(alloc: Global, line: Stmt) -> Result<Vec<Stmt>, Memory> {
     Ok(lines)
 }
 
-fn lines(alloc: Global, first: Stmt, second: Stmt, third: Stmt) -> Result<Vec<Stmt>, Memory> {
-    let mut lines = Vec::new(alloc);
-    lines.push(first)?;
-    lines.push(second)?;
-    lines.push(third)?;
+/// One more line.
+fn and(lines: Vec<Stmt>, next: Stmt) -> Result<Vec<Stmt>, Memory> {
+    let mut lines = lines;
+    lines.push(next)?;
     Ok(lines)
 }
 
@@ -116,56 +115,101 @@ fn adds_one(rt: HostRuntime) -> Result<(), Fail> {
     Ok(())
 }
 
+fn beyond(alloc: Global) -> Result<Stmt, Memory> {
+    Ok(Stmt::Return(two(
+        alloc,
+        BinOp::Add,
+        Expr::Int(i64::MAX),
+        Expr::Int(1),
+    )?))
+}
+
+/// Two operands that trap: the sum would judge its left one, but the right one is worked out first.
+fn none_and_zero(alloc: Global) -> Result<Stmt, Memory> {
+    let right = two(alloc, BinOp::Div, Expr::Int(1), Expr::Int(0))?;
+    Ok(Stmt::Return(two(alloc, BinOp::Add, Expr::Nothing, right)?))
+}
+
+fn glued(alloc: Global, left: &str, right: &str) -> Result<Stmt, Memory> {
+    let left = text(alloc, left)?;
+    let right = text(alloc, right)?;
+    Ok(Stmt::Return(two(alloc, BinOp::Glue, left, right)?))
+}
+
 #[test]
 fn expressions_trap(rt: HostRuntime) -> Result<(), Fail> {
     let alloc = rt.alloc();
-    let most = two(alloc, BinOp::Add, Expr::Int(i64::MAX), Expr::Int(1))?;
-    traps(&rt, alloc, Stmt::Return(most), 1, TrapKind::Overflow)?;
-    let zero = two(alloc, BinOp::Div, Expr::Int(1), Expr::Int(0))?;
-    let both = two(alloc, BinOp::Add, Expr::Nothing, zero)?;
-    traps(&rt, alloc, Stmt::Return(both), 1, TrapKind::Divide)?;
+    traps(&rt, alloc, beyond(alloc)?, 1, TrapKind::Overflow)?;
+    traps(&rt, alloc, none_and_zero(alloc)?, 1, TrapKind::Divide)?;
     traps(&rt, alloc, Stmt::If(Expr::Nothing), 1, TrapKind::Kind)?;
-    let part = "0123456789012345678901234567890123456789012345678901234567890123";
-    let half = two(alloc, BinOp::Glue, text(alloc, part)?, text(alloc, part)?)?;
-    let more = two(alloc, BinOp::Glue, text(alloc, part)?, text(alloc, part)?)?;
-    let full = two(alloc, BinOp::Glue, half, more)?;
-    let long = two(alloc, BinOp::Glue, full, text(alloc, "0")?)?;
-    traps(&rt, alloc, Stmt::Return(long), 1, TrapKind::Text)?;
+    let most = "0123456789012345678901234567890123456789012345678901234567890123456789012345678901234567890123456789012345678901234567890123456789";
+    traps(&rt, alloc, glued(alloc, most, most)?, 1, TrapKind::Text)?;
     Ok(())
+}
+
+fn push_none(alloc: Global) -> Result<Stmt, Memory> {
+    Ok(Stmt::Push(text(alloc, "q")?, Expr::Nothing))
+}
+
+fn spawn(alloc: Global) -> Result<Stmt, Memory> {
+    let name = word(alloc, "x")?;
+    Ok(Stmt::Spawn(name, word(alloc, "f")?, List::new(alloc)))
 }
 
 #[test]
 fn operations_trap(rt: HostRuntime) -> Result<(), Fail> {
     let alloc = rt.alloc();
-    let x = word(alloc, "x")?;
-    traps(&rt, alloc, Stmt::Read(x, Expr::Int(1)), 1, TrapKind::Key)?;
-    let push = Stmt::Push(text(alloc, "q")?, Expr::Nothing);
-    traps(&rt, alloc, push, 1, TrapKind::Kind)?;
+    let read = Stmt::Read(word(alloc, "x")?, Expr::Int(1));
+    traps(&rt, alloc, read, 1, TrapKind::Key)?;
+    traps(&rt, alloc, push_none(alloc)?, 1, TrapKind::Kind)?;
     let commit = Stmt::Commit(word(alloc, "x")?, List::new(alloc));
     traps(&rt, alloc, commit, 1, TrapKind::Txn)?;
     let join = Stmt::Join(word(alloc, "x")?, Expr::Int(1));
     traps(&rt, alloc, join, 1, TrapKind::Join)?;
-    let spawn = Stmt::Spawn(word(alloc, "x")?, word(alloc, "f")?, List::new(alloc));
-    traps(&rt, alloc, spawn, 4, TrapKind::Spawn)?;
+    traps(&rt, alloc, spawn(alloc)?, 4, TrapKind::Spawn)?;
     Ok(())
+}
+
+fn read(alloc: Global) -> Result<Stmt, Memory> {
+    let name = word(alloc, "x")?;
+    Ok(Stmt::Read(name, text(alloc, "a")?))
+}
+
+fn write(alloc: Global) -> Result<Stmt, Memory> {
+    let sum = two(alloc, BinOp::Add, var(alloc, "x")?, Expr::Int(1))?;
+    Ok(Stmt::Write(text(alloc, "b")?, sum))
+}
+
+/// Reads `a`, writes one more to `b`, and returns what it read.
+fn reader(alloc: Global) -> Result<Program, Memory>
+    ensures one { IfOk result (λ program. length program.functions ≡ 1) }
+    ensures fits { IfOk result (λ program. arity 0 program.functions ≡ 0) }
+{
+    let first = line(alloc, read(alloc)?)?;
+    let second = and(first, write(alloc)?)?;
+    let third = and(second, Stmt::Return(var(alloc, "x")?))?;
+    program(alloc, List::new(alloc), third)
+}
+
+fn asks_write(alloc: Global, frame: &Frame) -> Result<bool, Memory> {
+    let key = word(alloc, "b")?;
+    let value = Value::Int(5);
+    Ok(*frame.ask() == Ask::Op(Op::Write { key, value }))
+}
+
+fn asks_read(alloc: Global, frame: &Frame) -> Result<bool, Memory> {
+    let key = word(alloc, "a")?;
+    Ok(*frame.ask() == Ask::Op(Op::Read { key }))
 }
 
 #[test]
 fn reads_and_writes(rt: HostRuntime) -> Result<(), Fail> {
     let alloc = rt.alloc();
-    let sum = two(alloc, BinOp::Add, var(alloc, "x")?, Expr::Int(1))?;
-    let body = lines(
-        alloc,
-        Stmt::Read(word(alloc, "x")?, text(alloc, "a")?),
-        Stmt::Write(text(alloc, "b")?, sum),
-        Stmt::Return(var(alloc, "x")?),
-    )?;
-    let program = program(alloc, List::new(alloc), body)?;
+    let program = reader(alloc)?;
     let mut frame = start(alloc, &program, 1)?;
-    assert!(rt; *frame.ask() == Ask::Op(Op::Read { key: word(alloc, "a")? }));
+    assert!(rt; asks_read(alloc, &frame)?);
     give(&rt, alloc, &program, &mut frame, Answer::Value(Value::Int(4)))?;
-    let (key, value) = (word(alloc, "b")?, Value::Int(5));
-    assert!(rt; *frame.ask() == Ask::Op(Op::Write { key, value }));
+    assert!(rt; asks_write(alloc, &frame)?);
     give(&rt, alloc, &program, &mut frame, Answer::Done)?;
     assert!(rt; *frame.ask() == Ask::Done(Outcome::Good(Value::Int(4))));
     Ok(())
@@ -174,8 +218,7 @@ fn reads_and_writes(rt: HostRuntime) -> Result<(), Fail> {
 #[test]
 fn entries_are_counted(rt: HostRuntime) -> Result<(), Fail> {
     let alloc = rt.alloc();
-    let one = Expr::Int(1);
-    let body = lines(alloc, Stmt::While(one), Stmt::End, Stmt::End)?;
+    let body = and(line(alloc, Stmt::While(Expr::Int(1)))?, Stmt::End)?;
     let program = program(alloc, List::new(alloc), body)?;
     let frame = start(alloc, &program, 1)?;
     assert!(rt; *frame.ask() == Ask::Done(Outcome::Trap(TrapKind::Loop)));
