@@ -1,0 +1,4 @@
+pub mod SpanLemmas
+pub mod FrontLemmas
+pub mod LexLemmas
+pub mod LineLemmas
