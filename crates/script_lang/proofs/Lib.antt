@@ -2,3 +2,4 @@ pub mod SpanLemmas
 pub mod FrontLemmas
 pub mod LexLemmas
 pub mod LineLemmas
+pub mod ListLemmas

@@ -30,11 +30,11 @@ leaf true x = Tree x 1 0
 leaf false x = Wide
 
 abbrev pub two : BinOp → Part → Part → Part
-two o (Tree x n d) (Tree y m e) = if nat_le (n + m) 64 then Tree (e.Two o x y) (n + m) (max d e) else Deep
+two o (Tree x n d) (Tree y m h) = if nat_le (n + m) 64 then Tree (e.Two o x y) (n + m) (max d h) else Deep
 two o (Tree x n d) Wide = Wide
 two o (Tree x n d) Deep = Deep
 two o Wide right = Wide
-two o Deep (Tree y m e) = Deep
+two o Deep (Tree y m h) = Deep
 two o Deep Wide = Wide
 two o Deep Deep = Deep
 

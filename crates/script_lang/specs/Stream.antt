@@ -1,5 +1,6 @@
 -- The first tokens of those that are left.
 use Rattle.std.specs.Prelude.{ℕ, Bool, true, false, List, [], ◌∷◌, Option, Some, None, ◌==◌, if◌then◌else◌}
+use Rattle.script_lang.specs.declared.token.Key.{Key}
 use Rattle.script_lang.specs.declared.token.Mark.{Mark}
 use Rattle.script_lang.specs.declared.token.Mark.TheVariants as m
 use Rattle.script_lang.specs.declared.tokens.First.{First}
@@ -44,3 +45,8 @@ first_of (token ∷ ts) = first_by (mark_at (token ∷ ts)) f.Other
 abbrev pub behind : {A : Type 0} → List Token → Option A → Option (A × List Token)
 behind ts None = None
 behind ts (Some x) = Some (x, ts)
+
+-- the reserved word that stands first
+abbrev pub key_first : List Token → Option Key
+key_first (t.Key key ∷ ts) = Some key
+key_first _ = None

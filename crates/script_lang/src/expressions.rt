@@ -216,7 +216,7 @@ fn whole_part(
 }
 
 /// What reading on from a place gives.
-#[derive(Debug, Drop)]
+#[derive(Drop)]
 pub enum Step {
     /// This may come next.
     On(Place),
@@ -227,7 +227,7 @@ pub enum Step {
 }
 
 /// What a closing parenthesis closes.
-#[derive(Debug, Drop)]
+#[derive(Drop)]
 pub enum Closing {
     /// The innermost parenthesis that is open: this is the part in it, with the parenthesis.
     Inner(Part),

@@ -15,7 +15,7 @@ const MOST_OPERANDS: u16 = 64;
 const MOST_NESTED: u8 = 32;
 
 /// A part of an expression.
-#[derive(Debug, Drop)]
+#[derive(Drop)]
 pub enum Part {
     /// An expression, its number of operands, and its nesting.
     Tree(Expr, u8, u8),

@@ -9,7 +9,7 @@ use lb_base::Memory;
 use std::alloc::Global;
 
 /// What stands before the part that is being read.
-#[derive(Debug, Drop)]
+#[derive(Drop)]
 pub enum Item {
     /// A parenthesis that is open.
     Open(Wrapper),
@@ -19,7 +19,7 @@ pub enum Item {
 }
 
 /// What may come next.
-#[derive(Debug, Drop)]
+#[derive(Drop)]
 pub enum Place {
     /// An operand.
     Due,

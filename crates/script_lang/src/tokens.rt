@@ -1,7 +1,7 @@
 ghost use Rattle.std.specs.Prelude.{◌≡◌, ◌↔◌, [], ◌∷◌, ◌++◌, length, OnOk, IsTrue, MatchOption};
-ghost use Rattle.script_lang.specs.Stream.{taken, mark_at, code, same_mark, first_of};
+ghost use Rattle.script_lang.specs.Stream.{taken, mark_at, code, same_mark, first_of, key_first};
 
-use crate::token::{Mark, Token};
+use crate::token::{Key, Mark, Token};
 use lb_base::Memory;
 use std::alloc::Global;
 use std::collections::VecDeque;
@@ -94,6 +94,16 @@ impl Tokens {
     {
         match self.rest.front() {
             Some(Token::Mark(mark)) => Some(*mark),
+            _ => None,
+        }
+    }
+
+    /// The reserved word that stands first, where one does.
+    pub fn key(&self) -> Option<Key>
+        ensures { result ≡ key_first self.now }
+    {
+        match self.rest.front() {
+            Some(Token::Key(key)) => Some(*key),
             _ => None,
         }
     }
