@@ -3,3 +3,7 @@ pub mod FrontLemmas
 pub mod LexLemmas
 pub mod LineLemmas
 pub mod ListLemmas
+pub mod StatementLemmas
+pub mod NameLemmas
+pub mod TextLemmas
+pub mod GrammarReads

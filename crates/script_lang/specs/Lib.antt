@@ -6,3 +6,8 @@ pub mod Reading
 pub mod Statements
 pub mod Lists
 pub mod Making
+pub mod Functions
+pub mod Names
+pub mod Texts
+pub mod Printed
+pub mod Grammar

@@ -60,6 +60,15 @@ abbrev pub alone : {A : Type 0} → List Token → Rated A → Option (Rated A)
 alone [] x = Some x
 alone (t ∷ ts) x = None
 
+-- a numeral, and a quoted text of any length
+abbrev pub numeral_at : List Token → Option (Option ℕ × List Token)
+numeral_at (t.Num n ∷ ts) = Some (n, ts)
+numeral_at _ = None
+
+abbrev pub text_at : List Token → Option (List ℕ × List Token)
+text_at (t.Text x ∷ ts) = Some (x, ts)
+text_at _ = None
+
 -- a name of at most 32 bytes
 abbrev pub name_at : Reader (List ℕ)
 name_at (t.Name x ∷ ts) = Some (fine_if (nat_le (length x) 32) x, ts)

@@ -31,11 +31,11 @@ taken mark (token ∷ ts) = (false, token ∷ ts)
 
 -- whether an expression goes on at the first token
 abbrev pub first_by : Option Mark → First → First
-first_by None other = other
-first_by (Some m.Open) other = f.Other
-first_by (Some m.Close) other = f.Close
-first_by (Some m.Comma) other = f.Stop
-first_by (Some m.Assign) other = f.Stop
+first_by None none = none
+first_by (Some m.Open) none = f.Other
+first_by (Some m.Close) none = f.Close
+first_by (Some m.Comma) none = f.Stop
+first_by (Some m.Assign) none = f.Stop
 
 abbrev pub first_of : List Token → First
 first_of [] = f.Stop

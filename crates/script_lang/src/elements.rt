@@ -3,7 +3,7 @@
 ghost use Rattle.std.specs.Prelude.{◌≡◌, IfOk};
 ghost use Rattle.script_lang.specs.Stream.{behind};
 ghost use Rattle.script_lang.specs.Expressions.{expr_at};
-ghost use Rattle.script_lang.specs.Statements.{name_at, named_at, pair_at, value_at, minus_value, positive_value, negative_value, both, fine_if};
+ghost use Rattle.script_lang.specs.Statements.{numeral_at, text_at, name_at, named_at, pair_at, value_at, minus_value, positive_value, negative_value, both, fine_if};
 
 use crate::expressions::read_expr;
 use crate::rated::Rated;
@@ -55,8 +55,34 @@ pub(crate) fn rate<A: Drop>(fits: bool, a: A) -> Rated<A>
     if fits { Rated::Fine(a) } else { Rated::Wide }
 }
 
-/// The name that stands first, of at most 32 bytes.
-pub(crate) fn read_name(tokens: &mut Tokens) -> Option<Rated<Words>>
+/// The numeral that stands first, and nothing in it where it is 2^64 or more; None where none stands there.
+///
+/// After an answer the tokens behind it are left.
+pub fn read_numeral(tokens: &mut Tokens) -> Option<Option<u64>>
+    ensures { behind tokens.new result ≡ numeral_at tokens.old }
+{
+    match tokens.take() {
+        Some(Token::Num(n)) => Some(n),
+        _ => None,
+    }
+}
+
+/// The quoted text that stands first, of any length; None where none stands there.
+///
+/// After an answer the tokens behind it are left.
+pub fn read_text(tokens: &mut Tokens) -> Option<Words>
+    ensures { behind tokens.new result ≡ text_at tokens.old }
+{
+    match tokens.take() {
+        Some(Token::Text(text)) => Some(text),
+        _ => None,
+    }
+}
+
+/// The name that stands first, which is out of range where it has more than 32 bytes; None where none stands there.
+///
+/// After an answer the tokens behind it are left.
+pub fn read_name(tokens: &mut Tokens) -> Option<Rated<Words>>
     ensures { behind tokens.new result ≡ name_at tokens.old }
 {
     match tokens.take() {
@@ -115,8 +141,11 @@ fn read_negative(tokens: &mut Tokens) -> Option<Rated<Value>>
     }
 }
 
-/// The value that stands first: an integer, a quoted text of at most 256 bytes, or `none`.
-fn read_value(tokens: &mut Tokens) -> Option<Rated<Value>>
+/// The value that stands first: an integer, a quoted text, or `none`; None where none stands there.
+///
+/// It is out of range where an integer doesn't have 64 bits, or a text has more than 256 bytes. After an answer the tokens
+/// behind it are left.
+pub fn read_value(tokens: &mut Tokens) -> Option<Rated<Value>>
     ensures { behind tokens.new result ≡ value_at tokens.old }
 {
     match tokens.take() {

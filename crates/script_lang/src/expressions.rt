@@ -239,7 +239,8 @@ pub enum Closing {
 
 /// The end of the expression, where it may end.
 fn end_here(alloc: Global, stack: &mut Vec<Item>, place: Place) -> Result<Step, Memory>
-    ensures { IfOk result (λ r. (ts : List Token) (s : List Item) → Reads ts s r (ended ts (finish (reverse stack.old.items) place))) }
+    ensures read { IfOk result (λ r. (ts : List Token) (s : List Item) → Reads ts s r (ended ts (finish (reverse stack.old.items) place))) }
+    ensures ends { IfOk result (λ r. GoesOn r → ⊥) }
 {
     match whole_part(alloc, stack, place)? {
         Some(part) => Ok(Step::Ended(rated_part(part))),

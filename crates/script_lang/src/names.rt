@@ -183,17 +183,26 @@ fn marks_at(marks: &[List<u64>], at: usize) -> &[u64]
     }
 }
 
+/// Whether a function among these has the name.
+fn is_named(functions: &[Function], name: &str) -> bool
+    ensures { result ≡ list_any (λ g. bytes_eq name.now g.name) functions.now }
+{
+    functions
+        .iter()
+        .any(|function| name == function.name.as_str())
+}
+
 /// What is wrong with the head of a function, behind other functions.
 fn head_fault_of(before: &[Function], function: &Function) -> Option<Kind>
     ensures { result ≡ head_fault before.now function.now }
 {
-    let name = function.name.as_str();
-    if before.iter().any(|other| name == other.name.as_str())
-        || !are_distinct(function.params.as_slice())
-    {
-        Some(Kind::Name)
-    } else {
+    if is_named(before, function.name.as_str()) {
+        return Some(Kind::Name);
+    }
+    if are_distinct(function.params.as_slice()) {
         None
+    } else {
+        Some(Kind::Name)
     }
 }
 

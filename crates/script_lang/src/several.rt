@@ -14,9 +14,9 @@ use std::alloc::Global;
 
 /// Several elements, and how many they are, also where they are out of range or past the limits.
 #[derive(Drop)]
-pub(crate) struct Several<T> {
-    pub(crate) count: usize,
-    pub(crate) items: Rated<List<T>>,
+pub struct Several<T> {
+    pub count: usize,
+    pub items: Rated<List<T>>,
 }
 
 /// Adds an element at the end.
@@ -41,8 +41,10 @@ fn add<T: Drop>(items: Rated<List<T>>, item: Rated<T>) -> Result<Rated<List<T>>,
     }
 }
 
-/// One or more elements, with commas between them.
-pub(crate) fn read_several<T: Element>(
+/// One or more elements, with commas between them, that begin the tokens; None where a token doesn't fit.
+///
+/// After an answer the tokens behind them are left. `Memory` comes where there is no room for them.
+pub fn read_several<T: Element>(
     alloc: Global,
     tokens: &mut Tokens,
 ) -> Result<Option<Several<T>>, Memory>
