@@ -7,3 +7,4 @@ pub mod StatementLemmas
 pub mod NameLemmas
 pub mod TextLemmas
 pub mod GrammarReads
+pub mod PrintLemmas
