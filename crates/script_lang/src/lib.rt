@@ -19,6 +19,8 @@ mod several;
 mod spans;
 mod stack;
 mod statements;
+#[cfg(test)]
+mod tests;
 pub mod text;
 mod token;
 mod tokens;
