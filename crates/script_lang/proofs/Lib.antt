@@ -8,3 +8,4 @@ pub mod NameLemmas
 pub mod TextLemmas
 pub mod GrammarReads
 pub mod PrintLemmas
+pub mod GrammarSpelled

@@ -214,7 +214,7 @@ fn reads_lines_of_other_texts(rt: HostRuntime) -> Result<(), Fail> {
         Line::Tokens(tokens) => tokens,
         _ => Tokens::new(alloc),
     };
-    assert_eq!(rt; tokens.len(), 11);
+    assert_eq!(rt; tokens.len(), 12);
     for _ in 0..3 {
         let _ = tokens.take();
     }
