@@ -9,3 +9,6 @@ pub mod TextLemmas
 pub mod GrammarReads
 pub mod PrintLemmas
 pub mod GrammarSpelled
+pub mod GoodTokens
+pub mod GoodParts
+pub mod GoodStmts

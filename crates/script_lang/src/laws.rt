@@ -1,6 +1,9 @@
 //! What holds of the texts of functions.
 
-ghost use Rattle.std.specs.Prelude.{◌≡◌, ◌++◌, List, Some, true};
+ghost use Rattle.std.specs.Prelude.{◌≡◌, ◌++◌, ℕ, List, Some, Ok, true};
+ghost use Rattle.boki_types.specs.declared.program.Program.{Program};
+ghost use Rattle.boki_model.specs.Plans.{is_program};
+ghost use Rattle.script_lang.specs.Texts.{program_of};
 ghost use Rattle.script_lang.specs.declared.token.Token.{Token};
 ghost use Rattle.script_lang.specs.declared.parts.Part.{Part};
 ghost use Rattle.script_lang.specs.declared.rated.Rated.{Rated};
@@ -16,4 +19,9 @@ pub fn spelled_expression_is_read()
 /// What is read as an expression is spelled by the grammar, as what it is read, up to where it ends.
 pub fn read_expression_is_spelled()
     ensures { (ts : List Token) (found : Rated Expr × List Token) → expr_at ts ≡ Some found → IsSpelled ts found }
+{}
+
+/// The program that a text spells is within all limits, its blocks are closed, and its names and numbers of arguments are right.
+pub fn read_program_is_one()
+    ensures { (first : ℕ) (text : List ℕ) (p : Program) → program_of first text ≡ Ok p → is_program p ≡ true }
 {}
