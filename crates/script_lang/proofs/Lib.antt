@@ -12,3 +12,4 @@ pub mod GrammarSpelled
 pub mod GoodTokens
 pub mod GoodParts
 pub mod GoodStmts
+pub mod GoodDrafts
