@@ -13,3 +13,4 @@ pub mod GoodTokens
 pub mod GoodParts
 pub mod GoodStmts
 pub mod GoodDrafts
+pub mod GoodNames
