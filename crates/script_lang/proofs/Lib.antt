@@ -14,3 +14,4 @@ pub mod GoodParts
 pub mod GoodStmts
 pub mod GoodDrafts
 pub mod GoodNames
+pub mod PrintedAgain

@@ -11,14 +11,16 @@ use Rattle.boki_types.specs.declared.expr.Expr.TheVariants as exprs
 use Rattle.boki_types.specs.declared.expr.Expr.TheBlock.{shape-the_row-Expr-0, hidden-the_row-Expr-0}
 use Rattle.boki_model.specs.Bodies.{fits}
 use Rattle.boki_model.specs.Plans.{operands}
+use Rattle.script_lang.specs.declared.token.Key.TheVariants as keys
 use Rattle.script_lang.specs.declared.token.Token.{Token}
+use Rattle.script_lang.specs.declared.token.Token.TheVariants as tokens
 use Rattle.script_lang.specs.declared.rated.Rated.{Rated}
 use Rattle.script_lang.specs.declared.rated.Rated.TheVariants as rates
 use Rattle.script_lang.specs.declared.parts.Part.{Part}
 use Rattle.script_lang.specs.declared.parts.Part.TheVariants.{Tree, Wide, Deep}
 use Rattle.script_lang.specs.declared.parts.Wrapper.{Wrapper}
 use Rattle.script_lang.specs.declared.parts.Wrapper.TheVariants as wrappers
-use Rattle.script_lang.specs.Expressions.{leaf, two, inside, wrap, negated, positive, negative, rank, tight, rated, expr_at}
+use Rattle.script_lang.specs.Expressions.{leaf, two, inside, wrap, negated, positive, negative, is_zero, rank, tight, rated, expr_at}
 use Rattle.script_lang.specs.Canonical.{op_token, int_tokens, in_parens, tokens_of, deeper, depth_of}
 use Rattle.script_lang.specs.Grammar.{Spells, number, signed, text, variable, nothing, parens, text_of, len_of, negation, binary, operator_of, ends_at, IsSpelled}
 use Rattle.script_lang.proofs.GrammarReads.{spelled_is_read}
@@ -180,3 +182,103 @@ kept {p} (text_of {a = a} d) = inside_kept 0 p (wrap wrappers.TextOf) a (wrap_fi
 kept {p} (len_of {a = a} d) = inside_kept 0 p (wrap wrappers.Len) a (wrap_fits p wrappers.Len) (kept d)
 kept {p} (negation {a = a} l d) = inside_kept 3 p negated a (not_fits p l) (kept d)
 kept {p} (binary {a = a} {b = b} op sign is l d f) = two_kept p op a b l (kept d) (kept f)
+
+along : {p : ℕ} {ts : List Token} {a : Part} (b : Part) → a ≡ b → Spells p ts a → Spells p ts b
+along {p} {ts} b e d = let P : Part → Type 0 = λ z. Spells p ts z in subst P e d
+
+raised : (make : Expr → Expr) (x : Expr) (n d : ℕ) → d + 1 ≤ 32 → inside make (Tree x n d) ≡ Tree (make x) n (d + 1)
+raised make x n d h = let l : ltb d 32 ≡ true = grind (arith, nat_tests, h) in ap (λ b. cond b (Tree (make x) n (d + 1)) Deep) l
+
+joined : (o : BinOp) (x y : Expr) (n d m h : ℕ) → n + m ≤ 64 → two o (Tree x n d) (Tree y m h) ≡ Tree (exprs.Two o x y) (n + m) (max d h)
+joined o x y n d m h l = let e : leb (n + m) 64 ≡ true = grind (arith, nat_tests, l) in ap (λ b. cond b (Tree (exprs.Two o x y) (n + m) (max d h)) Deep) e
+
+in_case : (b : Bool) (p : ℕ) (ts : List Token) (x : Expr) (n d : ℕ) → (b ≡ false → Spells p ts (Tree x n d)) → Spells 0 ts (Tree x n d) → deeper b d ≤ 32 → Spells p (in_parens b ts) (Tree x n (deeper b d))
+in_case true p ts x n d plain bare h = along (Tree x n (d + 1)) (raised (wrap wrappers.Paren) x n d h) (parens bare)
+in_case false p ts x n d plain bare h = plain refl
+
+sign_of : (o : BinOp) → operator_of (op_token o) ≡ Some o
+sign_of ops.Or = refl
+sign_of ops.And = refl
+sign_of ops.Eq = refl
+sign_of ops.Ne = refl
+sign_of ops.Lt = refl
+sign_of ops.Le = refl
+sign_of ops.Gt = refl
+sign_of ops.Ge = refl
+sign_of ops.Add = refl
+sign_of ops.Sub = refl
+sign_of ops.Glue = refl
+sign_of ops.Mul = refl
+sign_of ops.Div = refl
+sign_of ops.Rem = refl
+
+to_small : (n : ℕ) → fits (pos n) ≡ true → ltb n (2 ^ 63) ≡ true
+to_small n e = e
+
+to_low : (n : ℕ) → fits (negsuc n) ≡ true → leb (suc n) (2 ^ 63) ≡ true
+to_low n e = grind (arith, nat_tests, ints, e)
+
+not_zero : (n : ℕ) → is_zero (Some (suc n)) ≡ false
+not_zero n = grind (arith, nat_tests)
+
+int_spelled : (p : ℕ) (n : ℤ) → fits n ≡ true → Spells p (int_tokens n) (Tree (exprs.Int n) 1 0)
+int_spelled p (pos n) e = along (Tree (exprs.Int (pos n)) 1 0) (ap (λ b. cond b (Tree (exprs.Int (pos n)) 1 0) Wide) (to_small n e)) (number (Some n))
+int_spelled p (negsuc n) e = along (Tree (exprs.Int (negsuc n)) 1 0) (ap (λ b. cond b (Tree (exprs.Int (negsuc n)) 1 0) Wide) (to_low n e)) (signed (Some (suc n)) (not_zero n))
+
+leaf_spelled : (p : ℕ) (ts : List Token) (b : Bool) (x : Expr) → b ≡ true → Spells p ts (leaf b x) → Spells p ts (Tree x 1 0)
+leaf_spelled p ts b x e d = along (Tree x 1 0) (ap (λ t. leaf t x) e) d
+
+not_above : (m n : ℕ) → ltb m n ≡ false → n ≤ m
+not_above m n e = grind (arith, nat_tests, e)
+
+not_spelled : (p : ℕ) (a : Expr) → Spells 3 (tokens_of 3 a) (Tree a (operands a) (depth_of 3 a)) → deeper (ltb 3 p) (depth_of 3 a + 1) ≤ 32 → Spells p (in_parens (ltb 3 p) (tokens.Key keys.Not ∷ tokens_of 3 a)) (Tree (exprs.Not a) (operands a) (deeper (ltb 3 p) (depth_of 3 a + 1)))
+not_spelled p a d h =
+    let low : depth_of 3 a + 1 ≤ 32 = omega (arith, deeper_more (ltb 3 p) (depth_of 3 a + 1)) in
+    let r = raised negated a (operands a) (depth_of 3 a) low in
+    in_case (ltb 3 p) p (tokens.Key keys.Not ∷ tokens_of 3 a) (exprs.Not a) (operands a) (depth_of 3 a + 1)
+    (λ e. along (Tree (exprs.Not a) (operands a) (depth_of 3 a + 1)) r (negation (not_above 3 p e) d))
+    (along (Tree (exprs.Not a) (operands a) (depth_of 3 a + 1)) r (negation (omega arith) d)) h
+
+two_spelled : (p : ℕ) (o : BinOp) (a b : Expr) → operands a + operands b ≤ 64 → Spells (tight (rank o)) (tokens_of (tight (rank o)) a) (Tree a (operands a) (depth_of (tight (rank o)) a)) → Spells (rank o + 1) (tokens_of (rank o + 1) b) (Tree b (operands b) (depth_of (rank o + 1) b)) → deeper (ltb (rank o) p) (max (depth_of (tight (rank o)) a) (depth_of (rank o + 1) b)) ≤ 32 → Spells p (in_parens (ltb (rank o) p) (tokens_of (tight (rank o)) a ++ op_token o ∷ tokens_of (rank o + 1) b)) (Tree (exprs.Two o a b) (operands a + operands b) (deeper (ltb (rank o) p) (max (depth_of (tight (rank o)) a) (depth_of (rank o + 1) b))))
+two_spelled p o a b l d f h =
+    let n = operands a + operands b in
+    let m = max (depth_of (tight (rank o)) a) (depth_of (rank o + 1) b) in
+    let ts = tokens_of (tight (rank o)) a ++ op_token o ∷ tokens_of (rank o + 1) b in
+    let r = joined o a b (operands a) (depth_of (tight (rank o)) a) (operands b) (depth_of (rank o + 1) b) l in
+    in_case (ltb (rank o) p) p ts (exprs.Two o a b) n m
+    (λ e. along (Tree (exprs.Two o a b) n m) r (binary o (op_token o) (sign_of o) (not_above (rank o) p e) d f))
+    (along (Tree (exprs.Two o a b) n m) r (binary o (op_token o) (sign_of o) (omega arith) d f)) h
+
+canonical : (x : Expr) (p : ℕ) → operands x ≤ 64 → depth_of p x ≤ 32 → is_short x ≡ true → Spells p (tokens_of p x) (Tree x (operands x) (depth_of p x))
+unfolding shape-the_row-Expr-0 hidden-the_row-Expr-0 hidden
+canonical (exprs.Int n) p o h s = int_spelled p n s
+canonical (exprs.Text x) p o h s = leaf_spelled p _ (leb (length x) 256) (exprs.Text x) s (text x)
+canonical exprs.Nothing p o h s = nothing
+canonical (exprs.Var x) p o h s = leaf_spelled p _ (leb (length x) 32) (exprs.Var x) s (variable x)
+canonical (exprs.Not' p' (more_of-Expr a end_of-Expr)) p o h s =
+    not_spelled p a (canonical a 3 o (omega (arith, deeper_more (ltb 3 p) (depth_of 3 a + 1))) s) h
+canonical (exprs.Two' op p' (more_of-Expr a end_of-Expr) q' (more_of-Expr b end_of-Expr)) p o h s =
+    let k = split_and (is_short a) (is_short b) s in
+    let m = deeper_more (ltb (rank op) p) (max (depth_of (tight (rank op)) a) (depth_of (rank op + 1) b)) in
+    two_spelled p op a b o
+    (canonical a (tight (rank op)) (omega arith) (omega arith) k.0)
+    (canonical b (rank op + 1) (omega arith) (omega arith) k.1) h
+canonical (exprs.TextOf' p' (more_of-Expr a end_of-Expr)) p o h s =
+    along (Tree (exprs.TextOf a) (operands a) (depth_of 0 a + 1)) (raised (wrap wrappers.TextOf) a (operands a) (depth_of 0 a) h) (text_of (canonical a 0 o (omega arith) s))
+canonical (exprs.Len' p' (more_of-Expr a end_of-Expr)) p o h s =
+    along (Tree (exprs.Len a) (operands a) (depth_of 0 a + 1)) (raised (wrap wrappers.Len) a (operands a) (depth_of 0 a) h) (len_of (canonical a 0 o (omega arith) s))
+
+again_by : (x : Expr) (rest : List Token) (a : Part) → KeptPart 0 a → rates.Fine x ≡ rated a → ends_at rest ≡ true → expr_at (tokens_of 0 x ++ rest) ≡ Some (rates.Fine x, rest)
+again_by x rest (Tree y n d) g e f =
+    let same : y ≡ x = cc in
+    let c = g.counted in let k = g.few in let i = g.nested in let l = g.low in
+    let h = canonical y 0 (omega arith) (omega arith) g.short in
+    let r = spelled_is_read (tokens_of 0 y) rest (Tree y (operands y) (depth_of 0 y)) h f in
+    subst (λ (z : Expr). expr_at (tokens_of 0 z ++ rest) ≡ Some (rates.Fine z, rest)) same r
+again_by x rest Wide g e f = absurd (cc)
+again_by x rest Deep g e f = absurd (cc)
+
+pub again : (ts behind rest : List Token) (x : Expr) → expr_at ts ≡ Some (rates.Fine x, behind) → ends_at rest ≡ true → expr_at (tokens_of 0 x ++ rest) ≡ Some (rates.Fine x, rest)
+again ts behind rest x e f =
+    let s = read_is_spelled ts (rates.Fine x, behind) e in
+    again_by x rest s.part (kept s.spelled) s.value f

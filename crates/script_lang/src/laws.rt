@@ -9,6 +9,8 @@ ghost use Rattle.script_lang.specs.declared.parts.Part.{Part};
 ghost use Rattle.script_lang.specs.declared.rated.Rated.{Rated};
 ghost use Rattle.boki_types.specs.declared.expr.Expr.{Expr};
 ghost use Rattle.script_lang.specs.Expressions.{expr_at, rated};
+ghost use Rattle.script_lang.specs.declared.rated.Rated.TheVariants.{Fine};
+ghost use Rattle.script_lang.specs.Canonical.{tokens_of};
 ghost use Rattle.script_lang.specs.Grammar.{Spells, IsSpelled, ends_at};
 
 /// What the grammar of expressions spells is read as what it spells, up to where it ends.
@@ -24,4 +26,9 @@ pub fn read_expression_is_spelled()
 /// The program that a text spells is within all limits, its blocks are closed, and its names and numbers of arguments are right.
 pub fn read_program_is_one()
     ensures { (first : ℕ) (text : List ℕ) (p : Program) → program_of first text ≡ Ok p → is_program p ≡ true }
+{}
+
+/// An expression that was read is read again from its canonical tokens, whatever follows them up to where it ends.
+pub fn read_expression_is_read_again()
+    ensures { (ts behind rest : List Token) (x : Expr) → expr_at ts ≡ Some (Fine x, behind) → ends_at rest ≡ true → expr_at (tokens_of 0 x ++ rest) ≡ Some (Fine x, rest) }
 {}
