@@ -15,3 +15,4 @@ pub mod GoodStmts
 pub mod GoodDrafts
 pub mod GoodNames
 pub mod PrintedAgain
+pub mod Relexed

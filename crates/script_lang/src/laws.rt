@@ -11,6 +11,8 @@ ghost use Rattle.boki_types.specs.declared.expr.Expr.{Expr};
 ghost use Rattle.script_lang.specs.Expressions.{expr_at, rated};
 ghost use Rattle.script_lang.specs.declared.rated.Rated.TheVariants.{Fine};
 ghost use Rattle.script_lang.specs.Canonical.{tokens_of};
+ghost use Rattle.script_lang.specs.Printed.{whole_text};
+ghost use Rattle.script_lang.specs.Tokens.{tokens_in};
 ghost use Rattle.script_lang.specs.Grammar.{Spells, IsSpelled, ends_at};
 
 /// What the grammar of expressions spells is read as what it spells, up to where it ends.
@@ -31,4 +33,9 @@ pub fn read_program_is_one()
 /// An expression that was read is read again from its canonical tokens, whatever follows them up to where it ends.
 pub fn read_expression_is_read_again()
     ensures { (ts behind rest : List Token) (x : Expr) → expr_at ts ≡ Some (Fine x, behind) → ends_at rest ≡ true → expr_at (tokens_of 0 x ++ rest) ≡ Some (Fine x, rest) }
+{}
+
+/// The canonical text of an expression that was read from a text is cut into its canonical tokens.
+pub fn printed_expression_is_cut_again()
+    ensures { (text : List ℕ) (ts behind : List Token) (x : Expr) → tokens_in text ≡ Some ts → expr_at ts ≡ Some (Fine x, behind) → tokens_in (whole_text x) ≡ Some (tokens_of 0 x) }
 {}
