@@ -18,9 +18,11 @@ use Rattle.script_lang.specs.declared.parts.Part.TheVariants.{Tree, Wide, Deep}
 use Rattle.script_lang.specs.declared.parts.Wrapper.{Wrapper}
 use Rattle.script_lang.specs.declared.parts.Wrapper.TheVariants as wrappers
 use Rattle.script_lang.specs.Expressions.{leaf, two, inside, wrap, negated, positive, negative, rated, expr_at}
-use Rattle.script_lang.specs.Grammar.{Spells, number, signed, text, variable, nothing, parens, text_of, len_of, negation, binary, IsSpelled}
+use Rattle.script_lang.specs.Grammar.{Spells, number, signed, text, variable, nothing, parens, text_of, len_of, negation, binary, ends_at, IsSpelled}
 use Rattle.script_lang.proofs.GrammarSpelled.{read_is_spelled}
 use Rattle.script_lang.proofs.GoodTokens.{GoodToken, GoodTokens, is_good_name}
+use Rattle.script_lang.specs.Canonical.{tokens_of}
+use Rattle.script_lang.proofs.PrintedAgain.{again}
 
 -- integers have 64 bits, texts at most 256 bytes, and variables are identifiers
 abbrev pub is_fine : Expr → Bool
@@ -160,26 +162,40 @@ spelled_good (binary {ts = ts} {us = us} {a = a} {b = b} op sign is l d f) h =
     let s = good_front ts (sign ∷ us) h in
     two_good op a b (spelled_good d s.0) (spelled_good f s.1.1)
 
--- An expression that is accepted is within the limits.
+-- An expression that is accepted is within the limits, and is read again from its canonical tokens.
+abbrev pub Again : Expr → Type 0
+Again x = (rest : List Token) → ends_at rest ≡ true → expr_at (tokens_of 0 x ++ rest) ≡ Some (rates.Fine x, rest)
+
+record SmallExpr (x : Expr) : Type 0 where
+  few : operands x ≤ 64
+  low : nesting x ≤ 32
+  fine : is_fine x ≡ true
+
 pub record GoodExpr (x : Expr) : Type 0 where
   pub few : operands x ≤ 64
   pub low : nesting x ≤ 32
   pub fine : is_fine x ≡ true
+  pub again : Again x
 
 abbrev pub GoodRated : {A : Type 0} → (A → Type 0) → Rated A → Type 0
 GoodRated P (rates.Fine a) = P a
 GoodRated P rates.Wide = Unit {0}
 GoodRated P rates.Deep = Unit {0}
 
-part_good : (a : Part) → GoodPart a → GoodRated GoodExpr (rated a)
+part_good : (a : Part) → GoodPart a → GoodRated SmallExpr (rated a)
 part_good (Tree x n d) g =
     let c = g.counted in let f = g.few in let i = g.nested in let u = g.low in
     record { few = omega arith; low = omega arith; fine = g.fine }
 part_good Wide g = tt
 part_good Deep g = tt
 
+with_again : (ts behind : List Token) (r : Rated Expr) → expr_at ts ≡ Some (r, behind) → GoodRated SmallExpr r → GoodRated GoodExpr r
+with_again ts behind (rates.Fine x) e g = record { few = g.few; low = g.low; fine = g.fine; again = λ rest f. again ts behind rest x e f }
+with_again ts behind rates.Wide e g = tt
+with_again ts behind rates.Deep e g = tt
+
 pub expr_good : (ts : List Token) (found : Rated Expr × List Token) → GoodTokens ts → expr_at ts ≡ Some found → GoodRated GoodExpr found.0 × GoodTokens found.1
 expr_good ts found h e =
     let s = read_is_spelled ts found e in
     let g = good_front s.front found.1 (subst GoodTokens (sym s.same) h) in
-    (subst (λ (r : Rated Expr). GoodRated GoodExpr r) (sym s.value) (part_good s.part (spelled_good s.spelled g.0)), g.1)
+    (with_again ts found.1 found.0 e (subst (λ (r : Rated Expr). GoodRated SmallExpr r) (sym s.value) (part_good s.part (spelled_good s.spelled g.0))), g.1)

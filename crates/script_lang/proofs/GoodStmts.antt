@@ -24,7 +24,7 @@ use Rattle.script_lang.specs.Stream.{taken, same_mark, key_first}
 use Rattle.script_lang.specs.Expressions.{expr_at}
 use Rattle.script_lang.specs.Statements.{Reader, ◌>>=◌, map_rated, both, fine_if, need, needed, alone, name_at, named_at, pair_at, cons, one_more, more_by, many_on, many, several, few, closed_many, listed_by, listed, applied, named_head, head_of, setter_of, setter_by, setter_at, set_value, set_spawn, make_commit, set_commit, set_by, let_of, two_of, one_of, group_of, all_of, keyed, stmt_of}
 use Rattle.script_lang.proofs.GoodTokens.{GoodToken, GoodTokens}
-use Rattle.script_lang.proofs.GoodParts.{is_fine, identifier, GoodExpr, GoodRated, expr_good}
+use Rattle.script_lang.proofs.GoodParts.{is_fine, identifier, Again, GoodExpr, GoodRated, expr_good}
 
 abbrev pub is_good_expr : Expr → Bool
 is_good_expr x = leb (operands x) 64 && leb (nesting x) 32 && is_fine x
@@ -298,10 +298,17 @@ good_counts (stmts.Commit x pairs) = leb (length pairs) 8
 good_counts (stmts.ReadAll pairs) = from_to 1 8 (length pairs)
 good_counts _ = true
 
+-- the function that it calls has a name
+abbrev pub called_name : Stmt → Bool
+called_name (stmts.Spawn x f es) = is_identifier f
+called_name _ = true
+
 pub record GoodStmt (l : Stmt) : Type 0 where
   pub exprs : list_all is_good_expr (expressions l) ≡ true
   pub names : list_all is_identifier (sets l) ≡ true
   pub counts : good_counts l ≡ true
+  pub again : AllOf Again (expressions l)
+  pub called : called_name l ≡ true
 
 one_expr : (x : Expr) → GoodExpr x → list_all is_good_expr (x ∷ []) ≡ true
 one_expr x g = both_true _ _ (good_expr x g) refl
@@ -328,6 +335,18 @@ all_sides : (pairs : List (Expr × Expr)) → AllOf TwoExprs pairs → list_all 
 all_sides [] g = refl
 all_sides (p ∷ ps) g = both_true _ _ (good_expr p.0 g.0.0) (both_true _ _ (good_expr p.1 g.0.1) (all_sides ps g.1))
 
+all_again : (xs : List Expr) → AllOf GoodExpr xs → AllOf Again xs
+all_again [] g = tt
+all_again (x ∷ xs) g = (g.0.again, all_again xs g.1)
+
+seconds_again : (pairs : List (List ℕ × Expr)) → AllOf NamedExpr pairs → AllOf Again (seconds pairs)
+seconds_again [] g = tt
+seconds_again (p ∷ ps) g = (g.0.1.again, seconds_again ps g.1)
+
+sides_again : (pairs : List (Expr × Expr)) → AllOf TwoExprs pairs → AllOf Again (sides pairs)
+sides_again [] g = tt
+sides_again (p ∷ ps) g = (g.0.0.again, (g.0.1.again, sides_again ps g.1))
+
 one_to_eight : (n m : ℕ) → n ≡ m → 1 ≤ m → m ≤ 8 → from_to 1 8 n ≡ true
 one_to_eight n m e l h = both_true _ _ (below 1 n (omega arith)) (below n 8 (omega arith))
 
@@ -345,12 +364,12 @@ spawn_good name ts r n g e =
     let k = both_good (λ p. IsName p.0 × IsName p.1) (Counts GoodExpr a.0.0.1.count) (both name a.0.0.0) a.0.0.1.items (both_good IsName IsName name a.0.0.0 n x.0) x.1 in
     alone_good GoodStmt a.0.1 (map_rated (λ p. stmts.Spawn p.0.0 p.0.1 p.1) (both (both name a.0.0.0) a.0.0.1.items)) r a.2
     (map_good (λ p. (IsName p.0.0 × IsName p.0.1) × Counts GoodExpr a.0.0.1.count p.1) GoodStmt (λ p. stmts.Spawn p.0.0 p.0.1 p.1) (both (both name a.0.0.0) a.0.0.1.items)
-    (λ p k. record { exprs = all_exprs p.1 k.1.0; names = one_name p.0.0 k.0.0; counts = refl }) k)
+    (λ p k. record { exprs = all_exprs p.1 k.1.0; names = one_name p.0.0 k.0.0; counts = refl; again = all_again p.1 k.1.0; called = k.0.1 }) k)
 
 commit_made : (name : Rated (List ℕ)) (n : ℕ) (writes : Rated (List (Expr × Expr))) → GoodRated IsName name → GoodRated (λ ys. AllOf TwoExprs ys × (length ys ≡ n) × (n ≤ 8)) writes → GoodRated GoodStmt (make_commit name writes)
 commit_made name n writes g h =
     map_good (λ p. IsName p.0 × (AllOf TwoExprs p.1 × (length p.1 ≡ n) × (n ≤ 8))) GoodStmt (λ p. stmts.Commit p.0 p.1) (both name writes)
-    (λ p k. let e = k.1.1 in let l = k.1.2 in record { exprs = all_sides p.1 k.1.0; names = one_name p.0 k.0; counts = below (length p.1) 8 (omega arith) })
+    (λ p k. let e = k.1.1 in let l = k.1.2 in record { exprs = all_sides p.1 k.1.0; names = one_name p.0 k.0; counts = below (length p.1) 8 (omega arith); again = sides_again p.1 k.1.0; called = refl })
     (both_good IsName (λ ys. AllOf TwoExprs ys × (length ys ≡ n) × (n ≤ 8)) name writes g h)
 
 commit_good : (name : Rated (List ℕ)) (ts : List Token) (r : Rated Stmt) → GoodRated IsName name → GoodTokens ts → set_commit name ts ≡ Some r → GoodRated GoodStmt r
@@ -401,10 +420,10 @@ setter_good setters.Pop ts g = drop_good ts g
 setter_good setters.Commit ts g = drop_good ts g
 
 set_good : (name : Rated (List ℕ)) (q : Setter × List Token) (r : Rated Stmt) → GoodRated IsName name → GoodTokens q.1 → set_by name q ≡ Some r → GoodRated GoodStmt r
-set_good name (setters.Value, ts) r n g e = value_good stmts.Let name ts r (λ w x h k. record { exprs = one_expr x k; names = one_name w h; counts = refl }) n g e
-set_good name (setters.Read, ts) r n g e = value_good stmts.Read name ts r (λ w x h k. record { exprs = one_expr x k; names = one_name w h; counts = refl }) n g e
-set_good name (setters.Join, ts) r n g e = value_good stmts.Join name ts r (λ w x h k. record { exprs = one_expr x k; names = one_name w h; counts = refl }) n g e
-set_good name (setters.Pop, ts) r n g e = value_good stmts.Pop name ts r (λ w x h k. record { exprs = one_expr x k; names = one_name w h; counts = refl }) n g e
+set_good name (setters.Value, ts) r n g e = value_good stmts.Let name ts r (λ w x h k. record { exprs = one_expr x k; names = one_name w h; counts = refl; again = (k.again, tt); called = refl }) n g e
+set_good name (setters.Read, ts) r n g e = value_good stmts.Read name ts r (λ w x h k. record { exprs = one_expr x k; names = one_name w h; counts = refl; again = (k.again, tt); called = refl }) n g e
+set_good name (setters.Join, ts) r n g e = value_good stmts.Join name ts r (λ w x h k. record { exprs = one_expr x k; names = one_name w h; counts = refl; again = (k.again, tt); called = refl }) n g e
+set_good name (setters.Pop, ts) r n g e = value_good stmts.Pop name ts r (λ w x h k. record { exprs = one_expr x k; names = one_name w h; counts = refl; again = (k.again, tt); called = refl }) n g e
 set_good name (setters.Spawn, ts) r n g e = spawn_good name ts r n g e
 set_good name (setters.Commit, ts) r n g e = commit_good name ts r n g e
 
@@ -417,7 +436,7 @@ let_good ts r g e =
     set_good a.0.0 (setter_at b.0) r n.0 (setter_good (setter_of (key_first b.0)) b.0 s) b.2
 
 all_by : (b : Bool) (ts : List Token) (r : Rated Stmt) → GoodTokens ts → cond b (group_of stmts.ReadAll ts) None ≡ Some r → GoodRated GoodStmt r
-all_by true ts r g e = group_good stmts.ReadAll ts r (λ pairs h k. record { exprs = all_seconds pairs h; names = all_names pairs h; counts = k }) g e
+all_by true ts r g e = group_good stmts.ReadAll ts r (λ pairs h k. record { exprs = all_seconds pairs h; names = all_names pairs h; counts = k; again = seconds_again pairs h; called = refl }) g e
 all_by false ts r g e = absurd (cc)
 
 all_good : (ts : List Token) (r : Rated Stmt) → GoodTokens ts → all_of ts ≡ Some r → GoodRated GoodStmt r
@@ -434,14 +453,14 @@ all_good (tokens.Mark n ∷ ts) r g e = absurd (cc)
 keyed_good : (key : Key) (ts : List Token) (r : Rated Stmt) → GoodTokens ts → keyed key ts ≡ Some r → GoodRated GoodStmt r
 keyed_good keys.Let ts r g e = let_good ts r g e
 keyed_good keys.Read ts r g e = all_good ts r g e
-keyed_good keys.Write ts r g e = pair_stmt_good stmts.Write ts r (λ x y h k. record { exprs = two_exprs x y h k; names = refl; counts = refl }) g e
-keyed_good keys.Push ts r g e = pair_stmt_good stmts.Push ts r (λ x y h k. record { exprs = two_exprs x y h k; names = refl; counts = refl }) g e
-keyed_good keys.Begin ts r g e = group_good stmts.Begin ts r (λ pairs h k. record { exprs = all_seconds pairs h; names = all_names pairs h; counts = k }) g e
-keyed_good keys.If ts r g e = one_stmt_good stmts.If ts r (λ x h. record { exprs = one_expr x h; names = refl; counts = refl }) g e
-keyed_good keys.While ts r g e = one_stmt_good stmts.While ts r (λ x h. record { exprs = one_expr x h; names = refl; counts = refl }) g e
-keyed_good keys.Return ts r g e = one_stmt_good stmts.Return ts r (λ x h. record { exprs = one_expr x h; names = refl; counts = refl }) g e
-keyed_good keys.Else ts r g e = alone_good GoodStmt ts (rates.Fine stmts.Else) r e (record { exprs = refl; names = refl; counts = refl })
-keyed_good keys.End ts r g e = alone_good GoodStmt ts (rates.Fine stmts.End) r e (record { exprs = refl; names = refl; counts = refl })
+keyed_good keys.Write ts r g e = pair_stmt_good stmts.Write ts r (λ x y h k. record { exprs = two_exprs x y h k; names = refl; counts = refl; again = (h.again, (k.again, tt)); called = refl }) g e
+keyed_good keys.Push ts r g e = pair_stmt_good stmts.Push ts r (λ x y h k. record { exprs = two_exprs x y h k; names = refl; counts = refl; again = (h.again, (k.again, tt)); called = refl }) g e
+keyed_good keys.Begin ts r g e = group_good stmts.Begin ts r (λ pairs h k. record { exprs = all_seconds pairs h; names = all_names pairs h; counts = k; again = seconds_again pairs h; called = refl }) g e
+keyed_good keys.If ts r g e = one_stmt_good stmts.If ts r (λ x h. record { exprs = one_expr x h; names = refl; counts = refl; again = (h.again, tt); called = refl }) g e
+keyed_good keys.While ts r g e = one_stmt_good stmts.While ts r (λ x h. record { exprs = one_expr x h; names = refl; counts = refl; again = (h.again, tt); called = refl }) g e
+keyed_good keys.Return ts r g e = one_stmt_good stmts.Return ts r (λ x h. record { exprs = one_expr x h; names = refl; counts = refl; again = (h.again, tt); called = refl }) g e
+keyed_good keys.Else ts r g e = alone_good GoodStmt ts (rates.Fine stmts.Else) r e (record { exprs = refl; names = refl; counts = refl; again = tt; called = refl })
+keyed_good keys.End ts r g e = alone_good GoodStmt ts (rates.Fine stmts.End) r e (record { exprs = refl; names = refl; counts = refl; again = tt; called = refl })
 keyed_good keys.Function ts r g e = absurd (cc)
 keyed_good keys.Spawn ts r g e = absurd (cc)
 keyed_good keys.Join ts r g e = absurd (cc)

@@ -16,3 +16,4 @@ pub mod GoodDrafts
 pub mod GoodNames
 pub mod PrintedAgain
 pub mod Relexed
+pub mod ReadAgain

@@ -1,6 +1,6 @@
 //! What holds of the texts of functions.
 
-ghost use Rattle.std.specs.Prelude.{◌≡◌, ◌++◌, ℕ, List, Some, Ok, true};
+ghost use Rattle.std.specs.Prelude.{◌≡◌, ◌++◌, ℕ, List, Some, Ok, true, flat_map};
 ghost use Rattle.boki_types.specs.declared.program.Program.{Program};
 ghost use Rattle.boki_model.specs.Plans.{is_program};
 ghost use Rattle.script_lang.specs.Texts.{program_of};
@@ -11,7 +11,7 @@ ghost use Rattle.boki_types.specs.declared.expr.Expr.{Expr};
 ghost use Rattle.script_lang.specs.Expressions.{expr_at, rated};
 ghost use Rattle.script_lang.specs.declared.rated.Rated.TheVariants.{Fine};
 ghost use Rattle.script_lang.specs.Canonical.{tokens_of};
-ghost use Rattle.script_lang.specs.Printed.{whole_text};
+ghost use Rattle.script_lang.specs.Printed.{whole_text, function_text};
 ghost use Rattle.script_lang.specs.Tokens.{tokens_in};
 ghost use Rattle.script_lang.specs.Grammar.{Spells, IsSpelled, ends_at};
 
@@ -38,4 +38,9 @@ pub fn read_expression_is_read_again()
 /// The canonical text of an expression that was read from a text is cut into its canonical tokens.
 pub fn printed_expression_is_cut_again()
     ensures { (text : List ℕ) (ts behind : List Token) (x : Expr) → tokens_in text ≡ Some ts → expr_at ts ≡ Some (Fine x, behind) → tokens_in (whole_text x) ≡ Some (tokens_of 0 x) }
+{}
+
+/// The program that a text spells is spelled again by the canonical text of its functions, one behind the other.
+pub fn printed_program_is_read_again()
+    ensures { (first second : ℕ) (text : List ℕ) (p : Program) → program_of first text ≡ Ok p → program_of second (flat_map function_text p.functions) ≡ Ok p }
 {}
