@@ -17,3 +17,5 @@ pub mod GoodNames
 pub mod PrintedAgain
 pub mod Relexed
 pub mod ReadAgain
+pub mod RelexedLines
+pub mod ProgramAgain

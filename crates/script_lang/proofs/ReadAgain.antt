@@ -280,7 +280,7 @@ spawn_back w f es h g =
 few_back : {A : Type 0} (n m : ℕ) (xs : List A) → n ≡ m → leb m 8 ≡ true → few (Listed n xs) ≡ rates.Fine xs
 few_back n m xs e h = ap (λ b. cond b (rates.Fine xs) rates.Wide) (ap (λ k. leb k 8) e ∙ h)
 
-head_back : (f : List ℕ) (ps : List (List ℕ)) → IsName f → AllOf IsName ps → length ps ≤ 8 → head_of (tokens.Key keys.Function ∷ call_tokens f (list_tokens name_tokens ps)) ≡ Some (rates.Fine (f, ps))
+pub head_back : (f : List ℕ) (ps : List (List ℕ)) → IsName f → AllOf IsName ps → length ps ≤ 8 → head_of (tokens.Key keys.Function ∷ call_tokens f (list_tokens name_tokens ps)) ≡ Some (rates.Fine (f, ps))
 head_back f ps h g l =
     let n = names_listed ps g in
     let small : leb (length ps) 8 ≡ true = grind (arith, nat_tests, l) in

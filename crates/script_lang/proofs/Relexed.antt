@@ -249,11 +249,11 @@ int_by (negsuc n) rest ts f s d =
 text_lexed : (w rest : List ℕ) (ts : List Token) → Lexed rest ts → Lexed (quoted w ++ rest) (tokens.Text w ∷ ts)
 text_lexed w rest ts d = first refl (ap quoted_token (quoted-reads_back w rest)) (behind 34 _ rest) d
 
-open_lexed : (rest : List ℕ) (ts : List Token) → Lexed rest ts → Lexed (40 ∷ rest) (tokens.Mark marks.Open ∷ ts)
+pub open_lexed : (rest : List ℕ) (ts : List Token) → Lexed rest ts → Lexed (40 ∷ rest) (tokens.Mark marks.Open ∷ ts)
 unfolding double single
 open_lexed rest ts d = first refl refl (omega arith) d
 
-close_lexed : (rest : List ℕ) (ts : List Token) → Lexed rest ts → Lexed (41 ∷ rest) (tokens.Mark marks.Close ∷ ts)
+pub close_lexed : (rest : List ℕ) (ts : List Token) → Lexed rest ts → Lexed (41 ∷ rest) (tokens.Mark marks.Close ∷ ts)
 unfolding double single
 close_lexed rest ts d = first refl refl (omega arith) d
 
