@@ -1,5 +1,5 @@
 -- Functions that are read line by line are within the limits.
-use Rattle.std.proofs.Common.{◌≡◌, ℕ, zero, suc, ◌+◌, ◌<◌, ◌≤◌, Bool, true, false, cond, ltb, leb, eqb, List, [], ◌∷◌, ◌++◌, length, Option, Some, None, Result, Ok, Err, refl, sym, ap, ◌∙◌, subst, append_assoc, length-append, arith}
+use Rattle.std.proofs.Common.{◌≡◌, ℕ, ◌+◌, ◌<◌, ◌≤◌, Bool, true, false, cond, ltb, leb, eqb, List, [], ◌∷◌, ◌++◌, length, Option, Some, None, Result, Ok, Err, refl, sym, ap, ◌∙◌, subst, append_assoc, length-append, arith}
 use Rattle.std.specs.Prelude.{◌&&◌}
 use Rattle.std.proofs.lemmas.Bool.Decides.{nat_tests}
 use Rattle.std.proofs.lemmas.List.{append-nil}
@@ -8,7 +8,6 @@ use Rattle.boki_types.specs.declared.kind.Kind.TheVariants as kinds
 use Rattle.boki_types.specs.declared.program.Function.{Function}
 use Rattle.boki_types.specs.declared.program.Stmt.{Stmt}
 use Rattle.boki_types.specs.declared.program.Stmt.TheVariants as stmts
-use Rattle.boki_model.specs.Bodies.{is_identifier}
 use Rattle.boki_model.specs.Plans.{is_balanced}
 use Rattle.script_lang.specs.declared.token.Token.{Token}
 use Rattle.script_lang.specs.declared.rated.Rated.{Rated}
@@ -25,7 +24,7 @@ use Rattle.script_lang.specs.declared.spans.Class.TheVariants.{Space}
 use Rattle.script_lang.specs.Tokens.{span, tokens_in}
 use Rattle.script_lang.specs.Lines.{line_of, line_behind, spelled, lines_in}
 use Rattle.script_lang.specs.Statements.{head_of, stmt_of}
-use Rattle.script_lang.specs.Functions.{opened, placing, begun, new_function, placed, lined, stage_line, draft_line, take_line, no_draft}
+use Rattle.script_lang.specs.Functions.{placing, begun, new_function, placed, lined, stage_line, take_line, no_draft}
 use Rattle.script_lang.specs.Texts.{goes_on, draft_from, scan}
 use Rattle.script_lang.proofs.GoodTokens.{GoodTokens, tokens_good}
 use Rattle.script_lang.proofs.GoodParts.{GoodRated}
@@ -189,13 +188,13 @@ placed_good : (n : ℕ) (fs : List Function) (ms : List (List ℕ)) (f : Functio
 unfolding GoodStage
 placed_good n fs ms f m bs l (placings.Line next) d p a k g s e =
     let balance : (rest : List Stmt) → is_balanced [] ((f.lines ++ l ∷ []) ++ rest) ≡ is_balanced next rest =
-        λ rest. ap (is_balanced []) (append_assoc f.lines (l ∷ []) rest) ∙ g.balance (l ∷ rest) ∙ step_on bs next l rest p in
+    λ rest. ap (is_balanced []) (append_assoc f.lines (l ∷ []) rest) ∙ g.balance (l ∷ rest) ∙ step_on bs next l rest p in
     subst GoodDraft (inner_ok Kind _ d e)
     (record { functions = a; stage = (k, record { name = g.name; params = g.params; few = g.few; lines = all_snoc GoodStmt f.lines l g.lines s; balance = balance }) })
 placed_good n fs ms f m bs l placings.Ends d p a k g s e =
     let nil : bs ≡ [] = ends_nil bs l p in
     let balanced : is_balanced [] f.lines ≡ true =
-        ap (is_balanced []) (sym (append-nil f.lines)) ∙ g.balance [] ∙ ap (λ z. is_balanced z []) nil in
+    ap (is_balanced []) (sym (append-nil f.lines)) ∙ g.balance [] ∙ ap (λ z. is_balanced z []) nil in
     let whole : GoodFunction f = record { name = g.name; params = g.params; few = g.few; lines = g.lines; balanced = balanced } in
     subst GoodDraft (inner_ok Kind _ d e)
     (record { functions = all_snoc GoodFunction fs f a whole; stage = omega (arith, length-append fs (f ∷ [])) })

@@ -1,5 +1,5 @@
 -- A program whose functions are within the limits, and whose second pass finds nothing, is one.
-use Rattle.std.proofs.Common.{◌≡◌, ℕ, zero, suc, ◌+◌, ◌≤◌, Bool, true, false, cond, leb, eqb, List, [], ◌∷◌, ◌++◌, length, take, get_or, Option, Some, None, Result, Ok, Err, refl, sym, ap, ◌∙◌, subst, append_assoc, length-append, arith}
+use Rattle.std.proofs.Common.{◌≡◌, ℕ, suc, ◌+◌, ◌≤◌, Bool, true, false, cond, leb, eqb, List, [], ◌∷◌, ◌++◌, length, take, get_or, Option, Some, None, Result, Ok, Err, refl, sym, ap, ◌∙◌, subst, append_assoc, length-append, arith}
 use Rattle.std.specs.Prelude.{◌&&◌, ◌||◌, not, map, option_map, bytes_eq}
 use Rattle.std.specs.List.{list_all, list_any}
 use Rattle.std.proofs.lemmas.Bool.Decides.{nat_tests}
@@ -15,19 +15,19 @@ use Rattle.boki_types.specs.declared.program.Function.{Function}
 use Rattle.boki_types.specs.declared.program.Program.{Program}
 use Rattle.boki_types.specs.declared.program.Stmt.{Stmt}
 use Rattle.boki_types.specs.declared.program.Stmt.TheVariants as stmts
-use Rattle.boki_types.specs.Finding.{find, function_at}
-use Rattle.boki_model.specs.Bodies.{is_identifier, few}
+use Rattle.boki_types.specs.Finding.{find}
+use Rattle.boki_model.specs.Bodies.{is_identifier}
 use Rattle.boki_model.specs.Maps.{has}
-use Rattle.boki_model.specs.Plans.{operands, nesting, knows, is_expr, expressions, sets, has_arity, known_function, fits_counts, is_stmt, are_stmts, is_function, names, distinct, is_program}
-use Rattle.boki_model.specs.Script.{firsts, seconds, sides}
+use Rattle.boki_model.specs.Plans.{operands, nesting, knows, is_expr, expressions, sets, has_arity, known_function, fits_counts, is_stmt, are_stmts, is_function, distinct, is_program}
+use Rattle.boki_model.specs.Script.{seconds, sides}
 use Rattle.script_lang.specs.declared.draft.Draft.{Draft}
 use Rattle.script_lang.specs.declared.draft.Stage.{Stage}
 use Rattle.script_lang.specs.declared.draft.Stage.TheVariants.{Between, Inside}
 use Rattle.script_lang.specs.declared.fault.ScriptFault.{ScriptFault}
 use Rattle.script_lang.specs.Functions.{no_draft}
 use Rattle.script_lang.specs.Names.{is_among, vars_known, reads_known, call_fault, spawn_fault, line_fault, numbered, lines_fault, head_fault, function_fault, or_else, functions_fault, name_fault}
-use Rattle.script_lang.specs.Texts.{scan, named, ended, finished, program_of, refuse}
-use Rattle.script_lang.proofs.NameLemmas.{has_is_among, known_in_not, known_in_text, known_in_len, known_in_two}
+use Rattle.script_lang.specs.Texts.{scan, named, ended, finished, program_of}
+use Rattle.script_lang.proofs.NameLemmas.{has_is_among}
 use Rattle.script_lang.proofs.GoodParts.{is_fine}
 use Rattle.script_lang.proofs.GoodStmts.{AllOf, IsName, GoodStmt, is_good_expr, good_counts}
 use Rattle.script_lang.proofs.GoodDrafts.{GoodFunction, scanned}

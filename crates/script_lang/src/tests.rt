@@ -1,4 +1,6 @@
-use crate::text::{Draft, Line, Tokens, as_text, first_name_fault, read_call, read_line, split_line};
+use crate::text::{
+    Draft, Line, Tokens, as_text, first_name_fault, read_call, read_line, split_line,
+};
 use crate::{Kind, ScriptFault, parse_functions, print_function};
 use lb_base::Memory;
 use std::alloc::Global;
@@ -91,13 +93,37 @@ fn refuses_texts(rt: HostRuntime) -> Result<(), Fail> {
         ("function f()\n# a", 1, Some((2, Kind::Truncated))),
         ("function f()\n", 1, Some((2, Kind::End))),
         ("# a\n\nreturn 1\n", 1, Some((3, Kind::Syntax))),
-        ("function f()\nend\nfunction f()\nend\n", 1, Some((3, Kind::Name))),
+        (
+            "function f()\nend\nfunction f()\nend\n",
+            1,
+            Some((3, Kind::Name)),
+        ),
         ("function f(a, a)\nend\n", 7, Some((7, Kind::Name))),
-        ("function f()\nif 1\nelse\nelse\nend\nend\n", 1, Some((4, Kind::Syntax))),
-        ("function f()\nwhile 1\nelse\nend\nend\n", 1, Some((3, Kind::Syntax))),
-        ("function f()\nlet x = g\nlet y = 1 +\nend\n", 1, Some((3, Kind::Syntax))),
-        ("function f()\nif 0\nlet x = 1\nend\nreturn x\nend\n", 1, None),
-        ("function f(a, b, c, d, e, g, h, i, j)\nend\n", 1, Some((1, Kind::Range))),
+        (
+            "function f()\nif 1\nelse\nelse\nend\nend\n",
+            1,
+            Some((4, Kind::Syntax)),
+        ),
+        (
+            "function f()\nwhile 1\nelse\nend\nend\n",
+            1,
+            Some((3, Kind::Syntax)),
+        ),
+        (
+            "function f()\nlet x = g\nlet y = 1 +\nend\n",
+            1,
+            Some((3, Kind::Syntax)),
+        ),
+        (
+            "function f()\nif 0\nlet x = 1\nend\nreturn x\nend\n",
+            1,
+            None,
+        ),
+        (
+            "function f(a, b, c, d, e, g, h, i, j)\nend\n",
+            1,
+            Some((1, Kind::Range)),
+        ),
     ] {
         assert_eq!(rt; first_fault(alloc, text, first)?, fault, "at {text}");
     }
@@ -117,16 +143,16 @@ fn around(alloc: Global, front: &str, piece: &str, n: usize, back: &str) -> Resu
 #[test]
 fn meets_every_limit(rt: HostRuntime) -> Result<(), Fail> {
     let alloc = rt.alloc();
-    for (piece, back, most) in [
-        ("return (", ")", 0),
-        ("not ", "1", 32),
-        ("1 + ", "1", 63),
-    ] {
+    for (piece, back, most) in [("return (", ")", 0), ("not ", "1", 32), ("1 + ", "1", 63)] {
         if most > 0 {
             let line = around(alloc, "return ", piece, most, back)?;
             assert_eq!(rt; refusal_of(alloc, line.as_str())?, None, "at {line}");
             let line = around(alloc, "return ", piece, most + 1, back)?;
-            assert_eq!(rt; refusal_of(alloc, line.as_str())?, Some((2, Kind::Deep)), "at {line}");
+            assert_eq!(rt;
+                refusal_of(alloc, line.as_str())?,
+                Some((2, Kind::Deep)),
+                "at {line}"
+            );
         }
     }
     let closed = around(alloc, "1", ")", 32, "")?;
