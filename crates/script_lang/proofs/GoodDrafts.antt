@@ -37,20 +37,20 @@ pub record GoodFunction (f : Function) : Type 0 where
   pub lines : AllOf GoodStmt f.lines
   pub balanced : is_balanced [] f.lines ≡ true
 
-record GoodOpen (f : Function) (bs : List Bool) : Type 0 where
-  name : IsName f.name
-  params : AllOf IsName f.params
-  few : length f.params ≤ 8
-  lines : AllOf GoodStmt f.lines
-  balance : (rest : List Stmt) → is_balanced [] (f.lines ++ rest) ≡ is_balanced bs rest
+pub record GoodOpen (f : Function) (bs : List Bool) : Type 0 where
+  pub name : IsName f.name
+  pub params : AllOf IsName f.params
+  pub few : length f.params ≤ 8
+  pub lines : AllOf GoodStmt f.lines
+  pub balance : (rest : List Stmt) → is_balanced [] (f.lines ++ rest) ≡ is_balanced bs rest
 
-GoodStage : ℕ → Stage → Type 0
+unfoldable pub GoodStage : ℕ → Stage → Type 0
 GoodStage n Between = n ≤ 256
 GoodStage n (Inside f m bs) = (n < 256) × GoodOpen f bs
 
-record GoodDraft (d : Draft) : Type 0 where
-  functions : AllOf GoodFunction d.functions
-  stage : GoodStage (length d.functions) d.stage
+pub record GoodDraft (d : Draft) : Type 0 where
+  pub functions : AllOf GoodFunction d.functions
+  pub stage : GoodStage (length d.functions) d.stage
 
 abbrev ok_in : {A : Type 0} (E : Type 0) → A → Result A E
 ok_in E x = Ok x
@@ -207,12 +207,12 @@ lined_good n fs ms f m bs (Some rates.Wide) d a k g h e = absurd (cc)
 lined_good n fs ms f m bs (Some rates.Deep) d a k g h e = absurd (cc)
 lined_good n fs ms f m bs (Some (rates.Fine l)) d a k g h e = placed_good n fs ms f m bs l (placing bs l) d refl a k g (h (rates.Fine l) refl) e
 
-stage_good : (n : ℕ) (ts : List Token) (fs : List Function) (ms : List (List ℕ)) (s : Stage) (d : Draft) → GoodTokens ts → AllOf GoodFunction fs → GoodStage (length fs) s → stage_line n ts fs ms s ≡ Ok d → GoodDraft d
+pub stage_good : (n : ℕ) (ts : List Token) (fs : List Function) (ms : List (List ℕ)) (s : Stage) (d : Draft) → GoodTokens ts → AllOf GoodFunction fs → GoodStage (length fs) s → stage_line n ts fs ms s ≡ Ok d → GoodDraft d
 unfolding GoodStage
 stage_good n ts fs ms Between d t a g e = begun_good n fs ms (head_of ts) d a (λ r. head_good ts r t) e
 stage_good n ts fs ms (Inside f m bs) d t a g e = lined_good n fs ms f m bs (stmt_of ts) d a g.0 g.1 (λ r. stmt_good ts r t) e
 
-take_good : (n : ℕ) (l : Line) (d next : Draft) → ((ts : List Token) → l ≡ lines.Tokens ts → GoodTokens ts) → GoodDraft d → take_line n l d ≡ Ok next → GoodDraft next
+pub take_good : (n : ℕ) (l : Line) (d next : Draft) → ((ts : List Token) → l ≡ lines.Tokens ts → GoodTokens ts) → GoodDraft d → take_line n l d ≡ Ok next → GoodDraft next
 take_good n lines.Skipped d next t g e = subst GoodDraft (inner_ok Kind d next e) g
 take_good n (lines.Tokens ts) d next t g e = stage_good n ts d.functions d.marks d.stage next (t ts refl) g.functions g.stage e
 take_good n lines.Bad d next t g e = absurd (cc)
@@ -229,7 +229,7 @@ behind_good : (front : List ℕ) (ts : List Token) → line_behind front ≡ lin
 behind_good [] ts e = absurd (cc)
 behind_good (c ∷ cs) ts e = behind_by c cs ts (eqb c 35) e
 
-line_good : (line : List ℕ) (ts : List Token) → line_of line ≡ lines.Tokens ts → GoodTokens ts
+pub line_good : (line : List ℕ) (ts : List Token) → line_of line ≡ lines.Tokens ts → GoodTokens ts
 line_good line ts e = behind_good (span Space line).1 ts e
 
 on_line : (others : Draft → Result (ℕ × Draft) ScriptFault) (n : ℕ) (r : Result Draft Kind) (found : ℕ × Draft) → ((d : Draft) → r ≡ Ok d → GoodDraft d) → ((d : Draft) (f : ℕ × Draft) → GoodDraft d → others d ≡ Ok f → GoodDraft f.1) → goes_on others n r ≡ Ok found → GoodDraft found.1
@@ -244,7 +244,7 @@ from_good n (line ∷ ls) rest d found g e =
     (λ next. take_good n (line_of line) d next (line_good line) g)
     (λ next f. from_good (n + 1) ls rest next f) e
 
-no_draft_good : GoodDraft no_draft
+pub no_draft_good : GoodDraft no_draft
 unfolding GoodStage
 no_draft_good = record { functions = tt; stage = omega arith }
 

@@ -254,12 +254,15 @@ ok_in E x = Ok x
 inner_ok : {A : Type 0} (E : Type 0) (x y : A) → ok_in E x ≡ ok_in E y → x ≡ y
 inner_ok E x y e = cc
 
+pub functions_pass : (fs : List Function) (ms : List (List ℕ)) → AllOf GoodFunction fs → length fs ≤ 256 → name_fault fs ms ≡ None → is_program (record { functions = fs }) ≡ true
+functions_pass fs ms g l n =
+    let h = functions_are fs [] fs ms 0 refl refl g refl n in
+    both_true _ _ (both_true _ _ (below (length fs) 256 l) h.names) h.functions
+
 named_is : (fs : List Function) (ms : List (List ℕ)) (o : Option (ℕ × Kind)) (p : Program) → name_fault fs ms ≡ o → AllOf GoodFunction fs → length fs ≤ 256 → named fs o ≡ Ok p → is_program p ≡ true
 named_is fs ms (Some fault) p n g l e = absurd (cc)
 named_is fs ms None p n g l e =
-    let h = functions_are fs [] fs ms 0 refl refl g refl n in
-    let q : is_program (record { functions = fs }) ≡ true = both_true _ _ (both_true _ _ (below (length fs) 256 l) h.names) h.functions in
-    subst (λ (z : Program). is_program z ≡ true) (inner_ok ScriptFault (record { functions = fs }) p e) q
+    subst (λ (z : Program). is_program z ≡ true) (inner_ok ScriptFault (record { functions = fs }) p e) (functions_pass fs ms g l n)
 
 ended_is : (n first : ℕ) (text : List ℕ) (fs : List Function) (ms : List (List ℕ)) (s : Stage) (p : Program) → scan first text no_draft ≡ Ok (n, record { functions = fs; marks = ms; stage = s }) → ended n fs ms s ≡ Ok p → is_program p ≡ true
 ended_is n first text fs ms Between p e f =
