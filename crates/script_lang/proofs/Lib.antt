@@ -7,3 +7,5 @@ pub mod StatementLemmas
 pub mod NameLemmas
 pub mod TextLemmas
 pub mod GrammarReads
+pub mod PrintLemmas
+pub mod GrammarSpelled

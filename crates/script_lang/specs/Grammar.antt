@@ -2,14 +2,16 @@
 use Rattle.std.specs.Prelude.{◌≡◌, ℕ, ◌+◌, ◌≤◌, Bool, true, false, List, [], ◌∷◌, ◌++◌, length, Option, Some, None, nat_le}
 use Rattle.boki_types.specs.declared.expr.BinOp.{BinOp}
 use Rattle.boki_types.specs.declared.expr.BinOp.TheVariants as o
+use Rattle.boki_types.specs.declared.expr.Expr.{Expr}
 use Rattle.boki_types.specs.declared.expr.Expr.TheVariants as e
 use Rattle.script_lang.specs.declared.token.Key.TheVariants as k
 use Rattle.script_lang.specs.declared.token.Mark.TheVariants as m
 use Rattle.script_lang.specs.declared.token.Token.{Token}
 use Rattle.script_lang.specs.declared.token.Token.TheVariants as t
+use Rattle.script_lang.specs.declared.rated.Rated.{Rated}
 use Rattle.script_lang.specs.declared.parts.Part.{Part}
 use Rattle.script_lang.specs.declared.parts.Wrapper.TheVariants as w
-use Rattle.script_lang.specs.Expressions.{leaf, two, inside, wrap, negated, positive, negative, is_zero, rank, tight}
+use Rattle.script_lang.specs.Expressions.{leaf, two, inside, wrap, negated, positive, negative, is_zero, rank, tight, rated}
 
 -- the operator that a token is
 abbrev pub operator_of : Token → Option BinOp
@@ -39,3 +41,12 @@ ends_at (t.Mark m.Close ∷ ts) = true
 ends_at (t.Mark m.Comma ∷ ts) = true
 ends_at (t.Mark m.Assign ∷ ts) = true
 ends_at _ = false
+
+-- What was read from tokens is spelled by a front of them, up to where the expression ends.
+pub record IsSpelled (whole : List Token) (found : Rated Expr × List Token) : Type 0 where
+  pub front : List Token
+  pub part : Part
+  pub spelled : Spells 0 front part
+  pub value : found.0 ≡ rated part
+  pub same : front ++ found.1 ≡ whole
+  pub ends : ends_at found.1 ≡ true

@@ -114,12 +114,12 @@ abbrev pub indent : ℕ → List ℕ
 indent zero = []
 indent (suc n) = codes "  " & indent n
 
+abbrev pub line_text : ℕ → Stmt → List ℕ
+line_text n l = indent (line_depth n l) & stmt_text l & codes "\n"
+
 abbrev pub lines_text : ℕ → List Stmt → List ℕ
 lines_text n [] = []
-lines_text n (l ∷ ls) = indent (line_depth n l) & stmt_text l & codes "\n" & lines_text (depth_behind n l) ls
-
-abbrev pub head_text : Function → List ℕ
-head_text f = codes "function " & f.name & codes "(" & listed name_text f.params & codes ")\n"
+lines_text n (l ∷ ls) = line_text n l & lines_text (depth_behind n l) ls
 
 abbrev pub function_text : Function → List ℕ
-function_text f = head_text f & lines_text 1 f.lines & codes "end\n"
+function_text f = codes "function " & f.name & codes "(" & listed name_text f.params & codes ")\n" & lines_text 1 f.lines & codes "end\n"

@@ -1,9 +1,9 @@
 //! The canonical text of functions.
 
-ghost use Rattle.std.specs.Prelude.{◌≡◌, ◌++◌, ◌+◌, nat_lt, codes, IfOk, OnOk, List as Items};
+ghost use Rattle.std.specs.Prelude.{◌≡◌, ◌++◌, ◌-◌, ◌<◌, ◌^◌, nat_lt, codes, IfOk, OnOk};
 ghost use Rattle.std.specs.String.{string_bytes};
 ghost use Rattle.script_lang.specs.Expressions.{rank as rank_is, tight};
-ghost use Rattle.script_lang.specs.Printed.{◌&◌, op_text, wrapped, expr_text, whole_text, named_text, pair_text, name_text, listed, behind_comma, spaced, stmt_text, commit_text, comma_before, line_depth, depth_behind, indent, lines_text, head_text, function_text};
+ghost use Rattle.script_lang.specs.Printed.{◌&◌, op_text, wrapped, expr_text, whole_text, named_text, pair_text, name_text, listed, stmt_text, commit_text, comma_before, line_depth, depth_behind, indent, line_text, lines_text, function_text};
 
 use crate::stack::{rank_of, tight_rank};
 use boki_types::{BinOp, Expr, Function, Stmt};
@@ -254,4 +254,76 @@ fn stmt_string(alloc: Global, stmt: &Stmt) -> Result<String, Memory>
         Stmt::Return(x) => one_string(alloc, "return ", x),
         Stmt::ReadAll(pairs) => group_string(alloc, "read all ", pairs.as_slice()),
     }
+}
+
+/// Two spaces, so often.
+fn indent_string(alloc: Global, n: usize) -> Result<String, Memory>
+    ensures { IfOk result (λ s. string_bytes s ≡ indent n) }
+{
+    let mut out = String::new(alloc);
+    'steps: for _ in 0..n {
+        out.push_str("  ")?;
+    }
+    Ok(out)
+}
+
+/// How far in a line stands where so many blocks are open before it.
+fn depth_at(n: usize, stmt: &Stmt) -> usize
+    ensures { result ≡ line_depth n stmt.now }
+{
+    match stmt {
+        Stmt::Else => n.saturating_sub(1),
+        Stmt::End => n.saturating_sub(1),
+        _ => n,
+    }
+}
+
+/// How many blocks are open behind a line.
+fn depth_after(n: usize, stmt: &Stmt) -> usize
+    requires { n < 2 ^ 64 - 1 }
+    ensures { result ≡ depth_behind n stmt.now }
+{
+    match stmt {
+        Stmt::If(_) => n + 1,
+        Stmt::While(_) => n + 1,
+        Stmt::End => n.saturating_sub(1),
+        _ => n,
+    }
+}
+
+/// A line.
+fn line_string(alloc: Global, n: usize, stmt: &Stmt) -> Result<String, Memory>
+    ensures { IfOk result (λ s. string_bytes s ≡ line_text n stmt.now) }
+{
+    let indent = indent_string(alloc, depth_at(n, stmt))?;
+    let text = stmt_string(alloc, stmt)?;
+    Ok(format!(in alloc; "{indent}{text}\n")?)
+}
+
+/// The lines of a function.
+fn lines_string(alloc: Global, lines: &[Stmt]) -> Result<String, Memory>
+    ensures { IfOk result (λ s. string_bytes s ≡ lines_text 1 lines.now) }
+{
+    let mut out = String::new(alloc);
+    let mut depth = 1usize;
+    'lines: for line in lines {
+        out.push_str(line_string(alloc, depth, line)?.as_str())?;
+        depth = depth_after(depth, line);
+    }
+    Ok(out)
+}
+
+/// The canonical text of a function: its head, its lines and its `end`, each with its line feed.
+///
+/// There is one space between words and on both sides of an operator, `, ` after a comma, and two spaces at the start of a line
+/// for each block that is open there; `else` and `end` stand as far in as the line that opened their block. Parentheses stand
+/// exactly where the tree needs them. `Memory` comes where there is no room for the text.
+pub fn print_function(alloc: Global, function: &Function) -> Result<Words, Memory>
+    ensures { IfOk result (λ text. text ≡ function_text function.now) }
+{
+    let name = function.name.as_str();
+    let params = listed_string(alloc, function.params.as_slice())?;
+    let lines = lines_string(alloc, function.lines.as_slice())?;
+    let text = format!(in alloc; "function {name}({params})\n{lines}end\n")?;
+    Ok(Words::from_string(text))
 }
