@@ -1,4 +1,7 @@
-use crate::{Event, Kind, PlanFault, Report, Turn, make_plan, parse_plan, parse_turns, print_event, print_plan, print_report, print_turn, valid};
+use crate::{
+    Event, Kind, PlanFault, Report, Turn, make_plan, parse_plan, parse_turns, print_event,
+    print_plan, print_report, print_turn, valid,
+};
 use lb_base::{List, Memory, Mode, Outcome, Path, Tag, Value, Words};
 use std::alloc::Global;
 use std::test::Fail;
@@ -89,7 +92,10 @@ fn refuses_events(rt: HostRuntime) -> Result<(), Fail> {
         ("submit 1 1048576 f(4)", Kind::Range),
         ("submit 1 0 nobody(4)", Kind::Range),
         ("submit 1 1 f(9223372036854775808)", Kind::Range),
-        ("submit 1 1 abcdefghijklmnopqrstuvwxyz1234567(4)", Kind::Range),
+        (
+            "submit 1 1 abcdefghijklmnopqrstuvwxyz1234567(4)",
+            Kind::Range,
+        ),
         ("repeat 0", Kind::Range),
         ("repeat 200001", Kind::Range),
         ("submit 1 1 g(4)", Kind::Name),
@@ -144,18 +150,58 @@ fn refuses_texts(rt: HostRuntime) -> Result<(), Fail> {
         ("setup 1 1 1 R\nfunction f()\nevents\n", 3, Kind::Syntax),
         ("setup 1 1 1 R\nevents\nrepeat 2\ncut\n", 5, Kind::End),
         ("setup 1 1 1 R\nevents\nrepeat 2\nend\n", 4, Kind::Syntax),
-        ("setup 1 1 1 R\nevents\nrepeat 2\nrepeat 0\n", 4, Kind::Syntax),
-        ("setup 1 1 1 R\nevents\nrepeat 2\ncut\nend 1\n", 5, Kind::Syntax),
-        ("setup 1 1 1 R\nevents\nrepeat 200000\ncut\ncut\nend\n", 6, Kind::Events),
-        ("setup 1 1 1 R\nevents\nrepeat 200000\ncut\nend\ncut\n", 6, Kind::Events),
-        ("setup 1 1 1 R\nevents\nrepeat 200000\ncut\ncut\n", 6, Kind::End),
-        ("setup 1 1 1 R\nobject \"x\" 1\nobject \"x\" 2\nevents\n", 3, Kind::Name),
+        (
+            "setup 1 1 1 R\nevents\nrepeat 2\nrepeat 0\n",
+            4,
+            Kind::Syntax,
+        ),
+        (
+            "setup 1 1 1 R\nevents\nrepeat 2\ncut\nend 1\n",
+            5,
+            Kind::Syntax,
+        ),
+        (
+            "setup 1 1 1 R\nevents\nrepeat 200000\ncut\ncut\nend\n",
+            6,
+            Kind::Events,
+        ),
+        (
+            "setup 1 1 1 R\nevents\nrepeat 200000\ncut\nend\ncut\n",
+            6,
+            Kind::Events,
+        ),
+        (
+            "setup 1 1 1 R\nevents\nrepeat 200000\ncut\ncut\n",
+            6,
+            Kind::End,
+        ),
+        (
+            "setup 1 1 1 R\nobject \"x\" 1\nobject \"x\" 2\nevents\n",
+            3,
+            Kind::Name,
+        ),
         ("setup 1 1 1 R\nobject \"\" 1\nevents\n", 2, Kind::Range),
         ("setup 1 1 1 R\nobject x 1\nevents\n", 2, Kind::Syntax),
-        ("setup 1 1 1 R\nfunction f()\nend\nobject \"x\" 1\n", 4, Kind::Syntax),
-        ("setup 1 1 1 R\nfunction f()\nend\nfunction f()\nend\nevents\n", 4, Kind::Name),
-        ("setup 1 1 1 R\nfunction f()\nreturn x\nend\nevents\nsubmit 1 1 g()\n", 3, Kind::Name),
-        ("setup 1 1 1 R\nevents\nsubmit 1 1 g()\nevent\n", 4, Kind::Syntax),
+        (
+            "setup 1 1 1 R\nfunction f()\nend\nobject \"x\" 1\n",
+            4,
+            Kind::Syntax,
+        ),
+        (
+            "setup 1 1 1 R\nfunction f()\nend\nfunction f()\nend\nevents\n",
+            4,
+            Kind::Name,
+        ),
+        (
+            "setup 1 1 1 R\nfunction f()\nreturn x\nend\nevents\nsubmit 1 1 g()\n",
+            3,
+            Kind::Name,
+        ),
+        (
+            "setup 1 1 1 R\nevents\nsubmit 1 1 g()\nevent\n",
+            4,
+            Kind::Syntax,
+        ),
     ] {
         assert_eq!(rt; refusal(alloc, text)?, Some((line, kind)), "at {text}");
     }
@@ -194,12 +240,17 @@ fn keeps_the_limits(rt: HostRuntime) -> Result<(), Fail> {
     Ok(())
 }
 
-const DEMO: &str = "# demo\nsetup 1 1 1 R\n\nfunction f( a )\n return (a+1)*2\nend\nevents\nrepeat 2\ncut\nend\n";
-const DEMO_PRINTED: &str = "setup 1 1 1 R\nfunction f(a)\n  return (a + 1) * 2\nend\nevents\nrepeat 2\n  cut\nend\n";
+const DEMO: &str =
+    "# demo\nsetup 1 1 1 R\n\nfunction f( a )\n return (a+1)*2\nend\nevents\nrepeat 2\ncut\nend\n";
 
-const ALL: &str = "setup 2 3 4 W 2\nobject \"x\" none\nobject \"a\\\"b\" -5\nfunction f(a, b)\n  return a\nend\nevents\nsubmit 1 7 f(1, \"b\")\ncopy 1 2 3\ncut\ncatch 1\nsync\nrestart 2\nstart 1 7.1.2 3\nstep 1\nkill 1\nlose 1\nmiss 1\nswitch 1 R\nendswitch 1\ntrim 1\nsweep 1\nappend 1 7,8 \"a\"\ncond 1 2 7 \"a\"\nnext 1 7 2\nprev 1 7 2\ntail 1 7\ntrimtag 1 7 2\nsettled 1 2.3\nsetaux 1 2 \"a\"\ngetaux 1 2\nrepeat 3\n  cut\n  step 2\nend\nseed 9\n";
+const DEMO_PRINTED: &str =
+    "setup 1 1 1 R\nfunction f(a)\n  return (a + 1) * 2\nend\nevents\nrepeat 2\n  cut\nend\n";
 
-const ONE_MOVE: &str = "setup 4 1 4 R\nobject \"a0\" 1000\nobject \"a1\" 1000\nobject \"a2\" 1000\nobject \"a3\" 1000\nobject \"a4\" 1000\nobject \"a5\" 1000\nobject \"a6\" 1000\nobject \"a7\" 1000\nobject \"a8\" 1000\nobject \"a9\" 1000\nfunction move(a, b, n)\n  let x = read a\n  let y = read b\n  write a, x - n\n  write b, y + n\n  return x - n\nend\nevents\nsubmit 2 1 move(\"a1\", \"a2\", 1)\nsync\nstart 1 1 2\nrepeat 12\n  step 1\n  sync\nend\n";
+const ALL: &str =
+    "setup 2 3 4 W 2\nobject \"x\" none\nobject \"a\\\"b\" -5\nfunction f(a, b)\n  return a\nend\nevents\nsubmit 1 7 f(1, \"b\")\ncopy 1 2 3\ncut\ncatch 1\nsync\nrestart 2\nstart 1 7.1.2 3\nstep 1\nkill 1\nlose 1\nmiss 1\nswitch 1 R\nendswitch 1\ntrim 1\nsweep 1\nappend 1 7,8 \"a\"\ncond 1 2 7 \"a\"\nnext 1 7 2\nprev 1 7 2\ntail 1 7\ntrimtag 1 7 2\nsettled 1 2.3\nsetaux 1 2 \"a\"\ngetaux 1 2\nrepeat 3\n  cut\n  step 2\nend\nseed 9\n";
+
+const ONE_MOVE: &str =
+    "setup 4 1 4 R\nobject \"a0\" 1000\nobject \"a1\" 1000\nobject \"a2\" 1000\nobject \"a3\" 1000\nobject \"a4\" 1000\nobject \"a5\" 1000\nobject \"a6\" 1000\nobject \"a7\" 1000\nobject \"a8\" 1000\nobject \"a9\" 1000\nfunction move(a, b, n)\n  let x = read a\n  let y = read b\n  write a, x - n\n  write b, y + n\n  return x - n\nend\nevents\nsubmit 2 1 move(\"a1\", \"a2\", 1)\nsync\nstart 1 1 2\nrepeat 12\n  step 1\n  sync\nend\n";
 
 #[test]
 fn prints_plans(rt: HostRuntime) -> Result<(), Fail> {
@@ -211,7 +262,8 @@ fn prints_plans(rt: HostRuntime) -> Result<(), Fail> {
     Ok(())
 }
 
-const TURNS: &str = "setup 1 1 1 R\nfunction set(k, v)\n  write k, v\n  return v\nend\nturns\nturn submit 1 set(\"x\", 1)\nturn go 1 0\n\nturn end 1\n";
+const TURNS: &str =
+    "setup 1 1 1 R\nfunction set(k, v)\n  write k, v\n  return v\nend\nturns\nturn submit 1 set(\"x\", 1)\nturn go 1 0\n\nturn end 1\n";
 
 #[test]
 fn reads_turns(rt: HostRuntime) -> Result<(), Fail> {
@@ -246,14 +298,22 @@ fn prints_a_report(rt: HostRuntime) -> Result<(), Fail> {
     };
     report.turns.push(Turn::Go { path, n: 2 })?;
     report.results.push((path, Outcome::Good(Value::Int(5))))?;
-    report.objects.push((Words::from_text(alloc, "x")?, Value::Int(4)))?;
+    report
+        .objects
+        .push((Words::from_text(alloc, "x")?, Value::Int(4)))?;
     let mut queued = List::new(alloc);
     queued.push(Value::Int(1))?;
     queued.push(Value::Nothing)?;
     report.queues.push((Words::from_text(alloc, "q")?, queued))?;
-    report.stores.push((Words::from_text(alloc, "s")?, Value::Nothing))?;
-    let want = "report\nturn go 1 2\nresult 1 value 5\nobject \"x\" 4\nqueue \"q\" [1, none]\nstore \"s\" none\nend\n";
-    assert_eq!(rt; print_report(alloc, &report, &text.plan.program)?.as_str(), want);
+    report
+        .stores
+        .push((Words::from_text(alloc, "s")?, Value::Nothing))?;
+    let want =
+        "report\nturn go 1 2\nresult 1 value 5\nobject \"x\" 4\nqueue \"q\" [1, none]\nstore \"s\" none\nend\n";
+    assert_eq!(rt;
+        print_report(alloc, &report, &text.plan.program)?.as_str(),
+        want
+    );
     Ok(())
 }
 
@@ -265,7 +325,15 @@ fn tells_valid_events(rt: HostRuntime) -> Result<(), Fail> {
     };
     assert!(rt; valid(&Event::Catch { engine: 4 }, &plan));
     assert!(rt; !valid(&Event::Catch { engine: 5 }, &plan));
-    assert!(rt; !valid(&Event::Switch { engine: 1, target: Mode::T }, &plan));
+    assert!(rt;
+        !valid(
+            &Event::Switch {
+                engine: 1,
+                target: Mode::T
+            },
+            &plan
+        )
+    );
     let call = Event::Submit {
         engine: 1,
         request: 1,
@@ -277,6 +345,9 @@ fn tells_valid_events(rt: HostRuntime) -> Result<(), Fail> {
         engine: 1,
         tag: Tag(7),
     };
-    assert_eq!(rt; print_event(alloc, &event, &plan.program)?.as_str(), "tail 1 7");
+    assert_eq!(rt;
+        print_event(alloc, &event, &plan.program)?.as_str(),
+        "tail 1 7"
+    );
     Ok(())
 }
