@@ -25,8 +25,8 @@ pub returns-in_err-draft : goal.returns-in_err-draft
 returns-in_err-draft c =
     let p = err_from_is_err_and c.from_residual.result c.from_residual.ensures.1 in
     let short : length c.args.bytes.now ≤ 16777216 = omega arith in
-    let P : Result TurnText PlanFault → Type 0 = λ r. Fails c.in_err-draft.field-0 r in
-    rw (p.1, p.2) (subst P (sym (turns_short c.args.bytes.now short)) (fails_at turn_line 300000 turns_finished turns_fault c.in_err-draft.field-0 c.lines.number c.lines.rest.now c.in-Some.line.now c.in-Some.after.now c.args.bytes.now c.lines.draft no_turns c.in-Some.ensures.line c.lines.invariant.0 c.in_err-draft.ensures))
+    let P : Result TurnText PlanFault → Type 0 = λ r. Fails c.in_err-draft.field-0.0 r in
+    rw (p.1, p.2) (subst P (sym (turns_short c.args.bytes.now short)) (fails_at turn_line 300000 turns_finished turns_fault c.in_err-draft.field-0.0 c.lines.number c.lines.rest.now c.in-Some.line.now c.in-Some.after.now c.args.bytes.now c.lines.draft no_turns c.in-Some.ensures.line c.lines.invariant.0 c.in_err-draft.ensures))
 
 pub returns-then-not-is_empty : goal.returns-then-not-is_empty
 returns-then-not-is_empty c =
