@@ -1,0 +1,11 @@
+pub mod SpanLemmas
+pub mod FrontLemmas
+pub mod LexLemmas
+pub mod LineLemmas
+pub mod ListLemmas
+pub mod StatementLemmas
+pub mod NameLemmas
+pub mod TextLemmas
+pub mod GrammarReads
+pub mod PrintLemmas
+pub mod GrammarSpelled

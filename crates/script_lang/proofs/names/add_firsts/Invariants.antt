@@ -1,0 +1,6 @@
+use Rattle.std.proofs.Common.{◌≡◌, ◌++◌, take}
+use Rattle.boki_model.specs.Script.{firsts}
+use Rattle.script_lang.proofs.names.add_firsts.Given as goal
+
+abbrev pub invariant-pairs : goal.invariant-pairs
+invariant-pairs l = l.known ≡ l.fn.known ++ firsts (take l.pair-index l.pairs)

@@ -1,0 +1,20 @@
+use Rattle.std.proofs.Common.{◌≡◌, ◌+◌, ◌<◌, Bool, true, false, List, ℕ, length, drop, get_or, sym, ap, ◌∙◌, subst}
+use Rattle.std.specs.Prelude.{◌&&◌, not}
+use Rattle.boki_model.specs.Plans.{distinct}
+use Rattle.script_lang.specs.Names.{is_among}
+use Rattle.script_lang.proofs.NameLemmas.{distinct_step}
+use Rattle.script_lang.proofs.names.are_distinct.Goals as goal
+
+pub returns-then-is_known : goal.returns-then-is_known
+returns-then-is_known c =
+    let names = c.args.names.now in let i = c.names.i in let rest = drop (i + 1) names in
+    let known = sym c.if-is_known.true ∙ c.is_known.ensures ∙ ap (λ (l : List (List ℕ)). is_among l c.as_str.result.now) c.split_at.ensures.back ∙ ap (is_among rest) c.as_str.ensures in
+    sym (distinct_step names i c.index-names-i.result true c.names-test.true c.index-names-i.is known)
+    ∙ c.names.invariant
+
+pub names-preserved : goal.names-preserved
+names-preserved c =
+    let names = c.args.names.now in let i = c.names.i in let rest = drop (i + 1) names in
+    let known = sym c.if-is_known.false ∙ c.is_known.ensures ∙ ap (λ (l : List (List ℕ)). is_among l c.as_str.result.now) c.split_at.ensures.back ∙ ap (is_among rest) c.as_str.ensures in
+    sym (distinct_step names i c.index-names-i.result false c.names-test.true c.index-names-i.is known)
+    ∙ c.names.invariant

@@ -1,0 +1,32 @@
+use Rattle.std.proofs.Common.{◌≡◌, ◌+◌, ◌-◌, ℕ, List, Option, Some, suc, length, sym, ap, ◌∙◌, subst, arith}
+use Rattle.script_lang.specs.declared.token.Token.{Token}
+use Rattle.script_lang.specs.declared.rated.Rated.{Rated}
+use Rattle.script_lang.specs.declared.several.Several.{Several}
+use Rattle.script_lang.specs.Statements.{many, several}
+use Rattle.script_lang.specs.Lists.{snoc}
+use Rattle.script_lang.proofs.ListLemmas.{behind_several, comma_behind, last_behind, none_behind}
+use Rattle.script_lang.proofs.several.read_several.Goals as goal
+
+pub returns-then-not-takes : goal.returns-then-not-takes
+returns-then-not-takes g c =
+    let left = c.len-end.result - (c.elements.counter + 1) in
+    let e : c.len-end.result - c.elements.counter ≡ suc left = omega arith in
+    let read = rw c.in-Some.is at c.in_ok-read.ensures in
+    let mark = rw c.if-not-takes.true at c.takes.ensures in
+    ap (λ xs. Some (record { count = c.elements.count + 1; items = xs }, c.takes.new.self)) c.in_ok-items-in-Some.ensures
+    ∙ sym (last_behind g.T.Element.reads c.elements.count left c.elements.items c.in-Some.item c.elements.tokens _ c.takes.new.self read mark)
+    ∙ ap (λ k. behind_several c.elements.count c.elements.items (many g.T.Element.reads k c.elements.tokens)) (sym e)
+    ∙ c.elements.invariant.0
+
+pub elements-preserved : goal.elements-preserved
+elements-preserved g c =
+    let left = c.len-end.result - (c.elements.counter + 1) in
+    let e : c.len-end.result - c.elements.counter ≡ suc left = omega arith in
+    let read = rw c.in-Some.is at c.in_ok-read.ensures in
+    let mark = rw c.if-not-takes.false at c.takes.ensures in (
+      ap (λ xs. behind_several (c.elements.count + 1) xs (many g.T.Element.reads left c.takes.new.self)) c.in_ok-items-in-Some.ensures
+          ∙ sym (comma_behind g.T.Element.reads c.elements.count left c.elements.items c.in-Some.item c.elements.tokens _ c.takes.new.self read mark)
+          ∙ ap (λ k. behind_several c.elements.count c.elements.items (many g.T.Element.reads k c.elements.tokens)) (sym e)
+          ∙ c.elements.invariant.0,
+      omega arith,
+    )

@@ -1,0 +1,13 @@
+pub mod Tokens
+pub mod Stream
+pub mod Lines
+pub mod Expressions
+pub mod Reading
+pub mod Statements
+pub mod Lists
+pub mod Making
+pub mod Functions
+pub mod Names
+pub mod Texts
+pub mod Printed
+pub mod Grammar

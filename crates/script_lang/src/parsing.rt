@@ -1,0 +1,94 @@
+//! The text of functions.
+
+ghost use Rattle.std.specs.Prelude.{◌≡◌, ◌≤◌, ◌<◌, IfSome, length, option_map};
+ghost use Rattle.std.specs.Str.{IsUtf8};
+ghost use Rattle.script_lang.specs.Lines.{first_line, line_of};
+ghost use Rattle.script_lang.specs.Functions.{take_line};
+ghost use Rattle.script_lang.specs.Texts.{Gives, AddGives, program_of, ended};
+
+use crate::draft::{Draft, Stage};
+use crate::fault::{LineFault, ScriptFault};
+use crate::lines::read_line;
+use crate::names::first_name_fault;
+use crate::spans::behind_first;
+use boki_types::{Kind, Program};
+use std::alloc::Global;
+
+/// The first line of a text, without its line feed, and what follows that.
+fn split_text(text: &str) -> Option<(&str, &str)>
+    ensures line { option_map (λ p. (p.0.now, p.1.now)) result ≡ first_line text.now }
+    ensures shorter { IfSome result (λ p. length p.1.now < length text.now) }
+    ensures text { IfSome result (λ p. IsUtf8 p.0.now × IsUtf8 p.1.now) }
+{
+    for (i, c) in text.as_bytes().iter().enumerate() {
+        if *c == b'\n' {
+            let (line, rest) = text.split_at(i);
+            return Some((line, behind_first(rest)));
+        }
+    }
+    None
+}
+
+/// The draft with a line of a text.
+fn add_text(alloc: Global, draft: Draft, number: u64, line: &str) -> Result<Draft, ScriptFault>
+    ensures { AddGives result number (take_line number (line_of line.now) draft) }
+{
+    let line = read_line(alloc, line)?;
+    match draft.take_line(alloc, number, line) {
+        Ok(draft) => Ok(draft),
+        Err(LineFault::Refused(kind)) => Err(ScriptFault::Refused { line: number, kind }),
+        Err(LineFault::Memory) => Err(ScriptFault::Memory),
+    }
+}
+
+/// The program of functions that were read to the end of their text, behind the line before this number.
+fn finish_draft(number: u64, draft: Draft) -> Result<Program, ScriptFault>
+    ensures { Gives result (ended number draft.functions draft.marks draft.stage) }
+{
+    let Draft {
+        functions,
+        marks,
+        stage,
+    } = draft;
+    match stage {
+        Stage::Inside(_, _, _) => Err(ScriptFault::Refused {
+            line: number,
+            kind: Kind::End,
+        }),
+        Stage::Between => match first_name_fault(functions.as_slice(), marks.as_slice())? {
+            Some((line, kind)) => Err(ScriptFault::Refused { line, kind }),
+            None => Ok(Program { functions }),
+        },
+    }
+}
+
+/// The program that a text spells; `first` is the number of the text's first line.
+///
+/// It needs a `first` from 1 to 300,000. A text is refused with the number of the first line that has a fault, and the first kind
+/// that applies to the whole line: `Truncated`, the last line has no line feed; `Syntax`, the line isn't in the grammar at its
+/// place; `Range`, a number, text, name or count is out of range; `Deep`, the limits of nesting or of operands are passed. Where no
+/// line has such a fault, `End` comes where the text stops in a function, with the number behind the last line. Else names and
+/// numbers of arguments are looked at, from the first line again: `Name`, a function or a parameter is given twice, or a function
+/// isn't known, or a variable is neither a parameter nor set by a line above; `Arity`, a call has another number of arguments
+/// than the function. `Memory` comes where there is no room for the program.
+pub fn parse_functions(alloc: Global, text: &str, first: u64) -> Result<Program, ScriptFault>
+    requires from { 1 ≤ first }
+    requires to { first ≤ 300000 }
+    ensures { Gives result (program_of first text.now) }
+{
+    let mut draft = Draft::new(alloc);
+    let mut rest = text;
+    let mut number = first;
+    'lines: while let Some((line, after)) = split_text(rest) {
+        draft = add_text(alloc, draft, number, line)?;
+        number += 1;
+        rest = after;
+    }
+    if !rest.is_empty() {
+        return Err(ScriptFault::Refused {
+            line: number,
+            kind: Kind::Truncated,
+        });
+    }
+    finish_draft(number, draft)
+}
