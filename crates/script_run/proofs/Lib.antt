@@ -1,0 +1,7 @@
+pub mod Lookups
+pub mod Evals
+pub mod Each
+pub mod Blocks
+pub mod Asks
+pub mod Goes
+pub mod Sets
