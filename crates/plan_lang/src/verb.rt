@@ -1,0 +1,28 @@
+/// The word of an event that calls no function.
+#[derive(Clone, Copy, Debug, PartialEq, Eq)]
+pub enum Verb {
+    Copy,
+    Cut,
+    Catch,
+    Sync,
+    Restart,
+    Start,
+    Step,
+    Kill,
+    Lose,
+    Miss,
+    Switch,
+    EndSwitch,
+    Trim,
+    Sweep,
+    Append,
+    Cond,
+    Next,
+    Prev,
+    Tail,
+    TrimTag,
+    Settled,
+    SetAux,
+    GetAux,
+    Seed,
+}
