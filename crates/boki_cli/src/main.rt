@@ -1,16 +1,23 @@
 //! The program `boki`: stateful serverless functions over a shared log, each run exactly once.
 #![tactic(auto)]
 
+mod check;
 mod edge;
-mod first;
+mod make;
+mod run;
+mod small;
 mod status;
+mod telling;
 #[cfg(test)]
 mod tests;
-mod top;
+mod words;
 
+use crate::check::check_top;
 use crate::edge::{StdSink, StdSource};
+use crate::make::make_top;
+use crate::run::run_top;
 use crate::status::Status;
-use crate::top::run_top;
+use crate::words::Command;
 use std::env;
 use std::process::ExitCode;
 
@@ -27,6 +34,10 @@ fn main(rt: HostRuntime) -> ExitCode {
     }
     let mut source = StdSource::new(rt.stdin());
     let mut sink = StdSink::new(rt.stdout());
-    let status = run_top(alloc, words.as_slice(), &mut source, &mut sink);
+    let status = match Command::of(words.as_slice()) {
+        Command::Run => run_top(alloc, words.as_slice(), &mut source, &mut sink),
+        Command::Check => check_top(alloc, words.as_slice(), &mut source, &mut sink),
+        Command::Make => make_top(alloc, words.as_slice(), &mut source, &mut sink),
+    };
     ExitCode::from(status.code())
 }
