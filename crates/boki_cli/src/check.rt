@@ -2,7 +2,7 @@
 
 ghost use Rattle.std.specs.Prelude.{◌≡◌, ◌≢◌, [], Some, true, false, map, string_bytes, IfSome};
 ghost use Rattle.lb_base.specs.Outside.{Rose};
-ghost use Rattle.boki_cli.specs.Due.{Meets, check_due, usage};
+ghost use Rattle.boki_cli.specs.Due.{Meets, Wrote, check_due, usage};
 ghost use Rattle.boki_cli.specs.Words.{is_check};
 
 use crate::status::Status;
@@ -16,6 +16,7 @@ use std::alloc::Global;
 /// Writes the plan that a text spells, or why it spells none.
 fn check_text<K: Sink>(alloc: Global, text: &[u8], sink: &mut K) -> Status
     ensures meets { Meets result (check_due text.now) (K.held sink.old) (K.held sink.new) }
+    ensures wrote { Wrote result (K.held sink.old) (K.held sink.new) }
     ensures other { (result ≢ Status.ReadFault) × (result ≢ Status.Usage) }
     ensures write { result ≡ Status.WriteFault → Rose (K.faults sink.old) (K.faults sink.new) }
 {
@@ -47,6 +48,8 @@ pub fn check_top<S: Source, K: Sink>(
     // The word `check`: what is due on the text that the source gives, likewise.
     ensures check { is_check (map string_bytes words.now) ≡ true →
         (result ≢ Status.Usage) × IfSome (S.left source.old) (λ text. Meets result (check_due text) (K.held sink.old) (K.held sink.new)) }
+    // What is written under each status, also where the source doesn't tell what it gives.
+    ensures wrote { is_check (map string_bytes words.now) ≡ true → Wrote result (K.held sink.old) (K.held sink.new) }
     // Done comes only once the source was read to its end.
     ensures done { result ≡ Status.Done → IfSome (S.left source.old) (λ _. S.left source.new ≡ Some []) }
     // Faults have a cause.

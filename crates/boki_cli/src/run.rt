@@ -2,7 +2,6 @@
 
 ghost use Rattle.std.specs.Prelude.{◌≡◌, ◌≢◌, ◌≤◌, ◌<◌, ◌^◌, [], Some, true, false, map, length, string_bytes, IfSome, IsErrOf};
 ghost use Rattle.lb_base.specs.Outside.{Rose};
-ghost use Rattle.plan_lang.specs.Texts.{plan_of};
 ghost use Rattle.boki_cli.specs.Due.{Grows, Meets, Ran, Runs, RunsBy, RunsText, Wrote, usage};
 ghost use Rattle.boki_cli.specs.Small.{is_small as is_small_plan};
 ghost use Rattle.boki_cli.specs.Words.{is_run};
@@ -161,6 +160,7 @@ fn run_machine<K: Sink>(
 fn run_small<K: Sink>(alloc: Global, plan: &Plan, sink: &mut K) -> Status
     requires few { length plan.now.program.functions < 2 ^ 32 }
     ensures ran { Ran result (K.held sink.old) (K.held sink.new) }
+    ensures wrote { Wrote result (K.held sink.old) (K.held sink.new) }
     ensures read { result ≢ Status.ReadFault }
     ensures write { result ≡ Status.WriteFault → Rose (K.faults sink.old) (K.faults sink.new) }
 {
@@ -175,6 +175,7 @@ fn run_small<K: Sink>(alloc: Global, plan: &Plan, sink: &mut K) -> Status
 /// Runs a plan, where it is of the small form.
 fn run_plan<K: Sink>(alloc: Global, plan: &Plan, sink: &mut K) -> Status
     ensures runs { RunsBy (is_small_plan plan.now) result (K.held sink.old) (K.held sink.new) }
+    ensures wrote { Wrote result (K.held sink.old) (K.held sink.new) }
     ensures read { result ≢ Status.ReadFault }
     ensures write { result ≡ Status.WriteFault → Rose (K.faults sink.old) (K.faults sink.new) }
 {
@@ -188,6 +189,7 @@ fn run_plan<K: Sink>(alloc: Global, plan: &Plan, sink: &mut K) -> Status
 /// Runs a text.
 fn run_text<K: Sink>(alloc: Global, text: &[u8], sink: &mut K) -> Status
     ensures runs { RunsText result text.now (K.held sink.old) (K.held sink.new) }
+    ensures wrote { Wrote result (K.held sink.old) (K.held sink.new) }
     ensures read { result ≢ Status.ReadFault }
     ensures write { result ≡ Status.WriteFault → Rose (K.faults sink.old) (K.faults sink.new) }
 {
@@ -220,6 +222,8 @@ pub fn run_top<S: Source, K: Sink>(
     // The word `run`: never the usage line. What the text that the source gives comes to.
     ensures run { is_run (map string_bytes words.now) ≡ true →
         (result ≢ Status.Usage) × IfSome (S.left source.old) (λ text. RunsText result text (K.held sink.old) (K.held sink.new)) }
+    // What is written under each status, also where the source doesn't tell what it gives.
+    ensures wrote { is_run (map string_bytes words.now) ≡ true → Wrote result (K.held sink.old) (K.held sink.new) }
     // Done comes only once the source was read to its end.
     ensures done { result ≡ Status.Done → IfSome (S.left source.old) (λ _. S.left source.new ≡ Some []) }
     // Faults have a cause.

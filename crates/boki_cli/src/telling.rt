@@ -2,7 +2,7 @@
 
 ghost use Rattle.std.specs.Prelude.{◌≡◌, ◌≢◌};
 ghost use Rattle.lb_base.specs.Outside.{Rose};
-ghost use Rattle.boki_cli.specs.Due.{Meets, due, printed, refusal, usage};
+ghost use Rattle.boki_cli.specs.Due.{Meets, Wrote, due, printed, refusal, usage};
 
 use crate::status::Status;
 use boki_types::{Kind, Plan};
@@ -29,6 +29,7 @@ pub fn tell_usage<K: Sink>(sink: &mut K) -> Status
 /// Writes the line of a refusal.
 pub fn refuse<K: Sink>(alloc: Global, line: u64, kind: Kind, sink: &mut K) -> Status
     ensures meets { Meets result (refusal line kind) (K.held sink.old) (K.held sink.new) }
+    ensures wrote { Wrote result (K.held sink.old) (K.held sink.new) }
     ensures other { (result ≢ Status.ReadFault) × (result ≢ Status.Usage) }
     ensures write { result ≡ Status.WriteFault → Rose (K.faults sink.old) (K.faults sink.new) }
 {
@@ -45,6 +46,7 @@ pub fn refuse<K: Sink>(alloc: Global, line: u64, kind: Kind, sink: &mut K) -> St
 /// Writes a text that is all that is due.
 fn tell_text<K: Sink>(text: &[u8], sink: &mut K) -> Status
     ensures meets { Meets result (due Status.Done text.now) (K.held sink.old) (K.held sink.new) }
+    ensures wrote { Wrote result (K.held sink.old) (K.held sink.new) }
     ensures other { (result ≢ Status.ReadFault) × (result ≢ Status.Usage) }
     ensures write { result ≡ Status.WriteFault → Rose (K.faults sink.old) (K.faults sink.new) }
 {
@@ -58,6 +60,7 @@ fn tell_text<K: Sink>(text: &[u8], sink: &mut K) -> Status
 /// Writes the canonical text of a plan.
 pub fn tell_plan<K: Sink>(alloc: Global, plan: &Plan, sink: &mut K) -> Status
     ensures meets { Meets result (printed plan.now) (K.held sink.old) (K.held sink.new) }
+    ensures wrote { Wrote result (K.held sink.old) (K.held sink.new) }
     ensures other { (result ≢ Status.ReadFault) × (result ≢ Status.Usage) }
     ensures write { result ≡ Status.WriteFault → Rose (K.faults sink.old) (K.faults sink.new) }
 {
