@@ -1,8 +1,7 @@
 -- A line that asks an operation: its flow is that of the operation, or of its trap.
-use Rattle.std.proofs.Common.{◌≡◌, ◌∙◌, ap, sym, subst, refl, ℕ, suc, ◌==◌, ◌||◌, ◌&&◌, nat_le, List, [], ◌∷◌, Bool, true, false, cond, Option, Some, None, Result, Ok, Err, pos, negsuc}
+use Rattle.std.proofs.Common.{◌≡◌, ◌∙◌, ap, sym, refl, ℕ, suc, ◌==◌, ◌||◌, ◌&&◌, nat_le, List, [], ◌∷◌, Bool, true, false, cond, Option, Some, None, Result, Ok, Err, pos, negsuc}
 use Rattle.lb_base.specs.declared.value.Value.{Value}
 use Rattle.lb_base.specs.declared.value.Value.TheVariants.{Int, Text, Nothing}
-use Rattle.lb_base.specs.declared.value.Outcome.TheVariants.{Trap}
 use Rattle.lb_base.specs.declared.value.TrapKind.{TrapKind}
 use Rattle.lb_base.specs.declared.value.TrapKind.TheVariants as trap
 use Rattle.boki_types.specs.declared.expr.Expr.{Expr}

@@ -1,8 +1,7 @@
 -- Open blocks: the innermost one stands last.
-use Rattle.std.proofs.Common.{◌≡◌, ◌∙◌, ap, sym, subst, refl, ℕ, zero, suc, ◌+◌, ◌-◌, List, [], ◌∷◌, ◌++◌, length, take, drop, cond, Bool, true, false, Option, Some, None, Result, Ok, Err, MatchOption, slice_get, append_assoc, arith}
+use Rattle.std.proofs.Common.{◌≡◌, ◌∙◌, ap, sym, subst, refl, ℕ, ◌+◌, ◌-◌, List, [], ◌∷◌, ◌++◌, length, take, Bool, Option, Some, None, Ok, MatchOption, slice_get, arith}
 use Rattle.std.specs.Option.{option_to_list}
 use Rattle.lb_base.specs.declared.value.Value.{Value}
-use Rattle.lb_base.specs.declared.value.TrapKind.{TrapKind}
 use Rattle.boki_types.specs.declared.expr.Expr.{Expr}
 use Rattle.boki_types.specs.declared.program.Stmt.{Stmt}
 use Rattle.boki_model.specs.Values.{then_, eval, condition}

@@ -1,5 +1,5 @@
 -- What an expression gives, by its parts, and how a part that fails ends the whole.
-use Rattle.std.proofs.Common.{◌≡◌, ◌≢◌, ◌∙◌, ap, sym, subst, refl, Bool, true, false, List, ℕ, Result, Ok, Err, Option, Some, None, cond}
+use Rattle.std.proofs.Common.{◌≡◌, ◌∙◌, ap, sym, subst, refl, Bool, true, false, List, ℕ, Result, Ok, Err, Option, Some, None, cond}
 use denote.Hole.Carrier.{hidden}
 use Rattle.boki_types.specs.declared.expr.Expr.TheBlock.{hidden-the_row-Expr-0}
 use Rattle.lb_base.specs.declared.value.Value.{Value}
@@ -8,10 +8,10 @@ use Rattle.boki_types.specs.declared.expr.BinOp.{BinOp}
 use Rattle.boki_types.specs.declared.expr.BinOp.TheVariants as op
 use Rattle.boki_types.specs.declared.expr.Expr as expr
 use Rattle.boki_types.specs.declared.expr.Expr.{Expr}
-use Rattle.boki_model.specs.Values.{then_, truth, condition, decided_by, operate, two, negated, text_of, length_of, eval}
+use Rattle.boki_model.specs.Values.{then_, truth, condition, decided_by, two, negated, text_of, length_of, eval}
 use Rattle.script_run.specs.declared.halt.Halt.{Halt}
 use Rattle.script_run.specs.declared.halt.Halt.TheVariants as halt
-use Rattle.script_run.specs.Gives.{GivesAs, Gives}
+use Rattle.script_run.specs.Gives.{Gives}
 use Rattle.script_run.specs.Judged.{decided_of, judged_of, unless}
 
 abbrev pub Variables : Type 0
@@ -64,15 +64,6 @@ two_is op.Rem left right = refl
 
 pub eval-both : (o : BinOp) (a b : Expr) (vs : Variables) → eval (expr.Two o a b) vs ≡ then_ (eval a vs) (λ v. then_ (decided_of o v) (λ d. unless d (then_ (eval b vs) (judged_of o v))))
 eval-both o a b vs = eval-two o a b vs ∙ two_is o (eval a vs) (eval b vs)
-
--- where the first part fails, the whole does
-pub fails : {X Y Z W : Type 0} (d : Result X TrapKind) (f : X → Result Y TrapKind) (view : Z → Y) (before : W → X) (h : Halt) → GivesAs before d (Err h) → GivesAs view (then_ d f) (Err h)
-fails d f view before (halt.Trap why) is = ap (λ r. then_ r f) is
-fails d f view before halt.Memory is = tt
-
--- and where it gives a value, the whole is what follows
-pub follows : {X Y Z : Type 0} (d : Result X TrapKind) (f : X → Result Y TrapKind) (view : Z → Y) (x : X) (r : Result Z Halt) → d ≡ Ok x → GivesAs view (f x) r → GivesAs view (then_ d f) r
-follows d f view x r is h = subst (λ e. GivesAs view (then_ e f) r) (sym is) h
 
 -- an expression of two operands, by what its two parts give
 pub is_two : (o : BinOp) (e a b a' b' : Expr) (vs : Variables) → e ≡ expr.Two o a b → a' ≡ a → b' ≡ b → eval e vs ≡ then_ (eval a' vs) (λ v. then_ (decided_of o v) (λ d. unless d (then_ (eval b' vs) (judged_of o v))))

@@ -5,3 +5,4 @@ pub mod Blocks
 pub mod Asks
 pub mod Goes
 pub mod Sets
+pub mod Standings

@@ -1,5 +1,5 @@
 -- Variables: where a name is found, entry by entry.
-use Rattle.std.proofs.Common.{◌≡◌, ◌<◌, ◌≤◌, ◌∙◌, ap, sym, refl, ℕ, zero, suc, ◌+◌, Bool, true, false, cond, bytes_eq, List, [], ◌∷◌, length, get_or, take, drop, set, Option, Some, None, unwrap_or, Result, Ok, Err, add-one, arith}
+use Rattle.std.proofs.Common.{◌≡◌, ◌<◌, ◌≤◌, ◌∙◌, ap, sym, refl, ℕ, zero, suc, ◌+◌, Bool, true, false, cond, bytes_eq, List, [], ◌∷◌, length, get_or, drop, set, Result, Ok, Err, add-one, arith}
 use Rattle.std.proofs.Math.Seq.{drop-cons}
 use Rattle.std.specs.List.{insert}
 use Rattle.std.proofs.lemmas.Map.Text.{is_eq-slice_cmp}
@@ -7,9 +7,8 @@ use Rattle.std.specs.declared.cmp.Ordering.{Ordering}
 use Rattle.std.specs.declared.cmp.Ordering.TheVariants.{Less, Equal, Greater}
 use Rattle.std.specs.FinMap.Entries.{by_order}
 use Rattle.lb_base.specs.declared.value.Value.{Value}
-use Rattle.lb_base.specs.declared.value.Value.TheVariants.{Nothing}
 use Rattle.std.specs.Ordering.{is_eq}
-use Rattle.boki_model.specs.Maps.{key_order, get, put}
+use Rattle.boki_model.specs.Maps.{key_order, put}
 use Rattle.boki_model.specs.Values.{value_in}
 use Rattle.script_run.specs.Places.{place_of, shifted}
 

@@ -1,8 +1,7 @@
 -- Where a line leads a frame, beside the line's flow.
-use Rattle.std.specs.Prelude.{◌≡◌, ◌<◌, ℕ, ◌+◌, List, drop, Option, Some, slice_get, Result, Ok, Err}
+use Rattle.std.specs.Prelude.{◌≡◌, ◌<◌, ℕ, ◌+◌, List, drop, Result, Ok, Err}
 use Rattle.lb_base.specs.declared.value.Outcome.TheVariants.{Trap}
 use Rattle.boki_types.specs.declared.program.Stmt.{Stmt}
-use Rattle.boki_types.specs.declared.program.Function.{Function}
 use Rattle.boki_types.specs.declared.operation.Ask.{Ask}
 use Rattle.boki_types.specs.declared.operation.Ask.TheVariants as k
 use Rattle.boki_model.specs.Script as script

@@ -4,11 +4,7 @@ use Rattle.lb_base.specs.declared.value.TrapKind.{TrapKind}
 use Rattle.script_run.specs.declared.halt.Halt.{Halt}
 use Rattle.script_run.specs.declared.halt.Halt.TheVariants as halt
 
--- a value that is seen as `view` says
-abbrev pub GivesAs : {X Y : Type 0} → (X → Y) → Result Y TrapKind → Result X Halt → Type 0
-GivesAs view defined (Ok x) = defined ≡ Ok (view x)
-GivesAs view defined (Err (halt.Trap why)) = defined ≡ Err why
-GivesAs view defined (Err halt.Memory) = Unit {0}
-
 abbrev pub Gives : {X : Type 0} → Result X TrapKind → Result X Halt → Type 0
-Gives defined result = GivesAs (λ x. x) defined result
+Gives defined (Ok x) = defined ≡ Ok x
+Gives defined (Err (halt.Trap why)) = defined ≡ Err why
+Gives defined (Err halt.Memory) = Unit {0}

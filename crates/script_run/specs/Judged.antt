@@ -1,7 +1,7 @@
 -- Operators, as they are judged: pieces that several of them share.
-use Rattle.std.specs.Prelude.{ℕ, Bool, true, false, cond, Option, Some, None, Result, Ok, Err, ℤ, int_lt}
+use Rattle.std.specs.Prelude.{Bool, true, false, cond, Option, Some, None, Result, Ok, Err, ℤ, int_lt}
 use Rattle.lb_base.specs.declared.value.Value.{Value}
-use Rattle.lb_base.specs.declared.value.Value.TheVariants.{Int, Text, Nothing}
+use Rattle.lb_base.specs.declared.value.Value.TheVariants.{Int, Text}
 use Rattle.lb_base.specs.declared.value.TrapKind.{TrapKind}
 use Rattle.lb_base.specs.declared.value.TrapKind.TheVariants as trap
 use Rattle.boki_types.specs.declared.expr.BinOp.{BinOp}

@@ -1,18 +1,11 @@
 -- What a frame keeps, and where the script stands by it.
-use Rattle.std.specs.Prelude.{◌≡◌, ◌<◌, ℕ, ◌+◌, List, [], ◌∷◌, Option, Some, None, Bool, true, false, slice_get, drop, option_and_then}
+use Rattle.std.specs.Prelude.{ℕ, ◌+◌, List, [], ◌∷◌, Option, Some, None, slice_get, drop, option_and_then}
 use Rattle.lb_base.specs.declared.value.Value.{Value}
-use Rattle.lb_base.specs.declared.value.Outcome.{Outcome}
 use Rattle.boki_types.specs.declared.expr.Expr.{Expr}
 use Rattle.boki_types.specs.declared.program.Stmt.{Stmt}
 use Rattle.boki_types.specs.declared.program.Stmt.TheVariants as s
-use Rattle.boki_types.specs.declared.program.Function.{Function}
-use Rattle.boki_types.specs.declared.operation.Op.{Op}
-use Rattle.boki_types.specs.declared.operation.Op.TheVariants as o
 use Rattle.boki_types.specs.declared.operation.Ask.{Ask}
 use Rattle.boki_types.specs.declared.operation.Ask.TheVariants as k
-use Rattle.boki_types.specs.declared.operation.Answer.{Answer}
-use Rattle.boki_types.specs.declared.operation.Answer.TheVariants as a
-use Rattle.boki_types.specs.Finding.{function_at}
 use Rattle.boki_model.specs.Script as script
 use Rattle.boki_model.specs.Script.{firsts}
 use Rattle.script_run.specs.declared.state.State.{State}

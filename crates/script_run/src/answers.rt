@@ -1,6 +1,6 @@
 //! Answers: what they set, by the line that asked.
 
-ghost use Rattle.std.specs.Prelude.{◌≡◌, List, IfOk, OnOk, Some, option_and_then};
+ghost use Rattle.std.specs.Prelude.{◌≡◌, ◌↔◌, List, IfOk, OnOk, IsTrue, Some, option_and_then};
 ghost use Rattle.std.specs.Option.{option_copied};
 ghost use Rattle.boki_types.specs.declared.program.Stmt.{Stmt};
 ghost use Rattle.boki_types.specs.declared.operation.Answer.{Answer};
@@ -143,5 +143,31 @@ pub(crate) fn receive(
             state.transaction = None;
             Ok(None)
         }
+    }
+}
+
+/// Whether an answer is of the kind of an operation.
+pub(crate) fn is_of_kind(operation: &Op, answer: &Answer) -> bool
+    ensures { IsTrue result ↔ IsOfKind operation.now answer.now }
+{
+    match operation {
+        Op::Read { .. } => matches!(answer, Answer::Value(_)),
+        Op::Write { .. } => matches!(answer, Answer::Done),
+        Op::Spawn { ordinal, .. } => match answer {
+            Answer::Spawned(given) => *given == *ordinal,
+            _ => false,
+        },
+        Op::Join { .. } => matches!(answer, Answer::Joined(_)),
+        Op::Push { .. } => matches!(answer, Answer::Done),
+        Op::Pop { .. } => matches!(answer, Answer::Value(_)),
+        Op::Begin { names } => match answer {
+            Answer::Values(values) => values.len() == names.len(),
+            _ => false,
+        },
+        Op::Commit { .. } => matches!(answer, Answer::Committed(_)),
+        Op::ReadGroup { keys } => match answer {
+            Answer::Values(values) => values.len() == keys.len(),
+            _ => false,
+        },
     }
 }

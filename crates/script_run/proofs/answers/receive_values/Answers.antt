@@ -1,8 +1,6 @@
-use Rattle.std.proofs.Common.{◌∙◌, ap, sym, subst, List, ℕ, Some, Ok, length, ◌≡◌}
+use Rattle.std.proofs.Common.{◌∙◌, ap, sym, subst, List, ℕ, Some, Ok}
 use Rattle.std.specs.Option.{option_copied}
-use Rattle.lb_base.specs.declared.value.Value.{Value}
 use Rattle.boki_types.specs.declared.operation.Op.{Op}
-use Rattle.boki_types.specs.declared.operation.Op.TheVariants as o
 use Rattle.boki_types.specs.declared.operation.Answer.TheVariants as a
 use Rattle.boki_model.specs.Script as script
 use Rattle.script_run.specs.Answering.{IsOfKind}

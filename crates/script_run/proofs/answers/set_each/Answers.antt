@@ -1,9 +1,8 @@
 use Rattle.std.specs.Iterator.Adapters.{zip_first, zip_second}
 use Rattle.std.specs.Slice.Iter.{iter_rest}
 use Rattle.std.proofs.lemmas.Slice.Zip.{either_empty_from_Zip}
-use Rattle.boki_model.specs.Script.{firsts}
 use Rattle.script_run.specs.Answering.{put_each}
-use Rattle.script_run.proofs.Sets.{run_out, first_names}
+use Rattle.script_run.proofs.Sets.{run_out}
 use Rattle.script_run.proofs.answers.set_each.Goals as goal
 
 pub returns : goal.returns

@@ -1,7 +1,6 @@
 use Rattle.std.proofs.Common.{◌≡◌}
 use Rattle.std.specs.Iterator.Adapters.{zip_first, zip_second}
 use Rattle.std.specs.Slice.Iter.{iter_rest}
-use Rattle.boki_model.specs.Script.{firsts}
 use Rattle.script_run.specs.Answering.{put_each}
 use Rattle.script_run.proofs.answers.set_each.Given as goal
 

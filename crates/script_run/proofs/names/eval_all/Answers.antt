@@ -1,5 +1,5 @@
 use Rattle.std.proofs.lemmas.Result.{err_from_is_err_and}
-use Rattle.script_run.specs.Pairs.{each_of, value_of, second_of}
+use Rattle.script_run.specs.Pairs.{each_of, value_of}
 use Rattle.script_run.proofs.Each.{behind_none, goes_on_at, stops_at, ends_at}
 use Rattle.script_run.proofs.names.eval_all.Goals as goal
 

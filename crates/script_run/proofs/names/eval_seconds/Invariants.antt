@@ -1,5 +1,5 @@
 use Rattle.std.proofs.Common.{◌≡◌, drop}
-use Rattle.script_run.specs.Pairs.{each_of, value_of, second_of}
+use Rattle.script_run.specs.Pairs.{each_of, second_of}
 use Rattle.script_run.proofs.Each.{behind_list}
 use Rattle.script_run.proofs.names.eval_seconds.Given as goal
 

@@ -1,6 +1,5 @@
 use Rattle.std.proofs.Common.{◌≡◌}
 use Rattle.std.specs.Vec.Iter.{into_iter_items}
-use Rattle.boki_model.specs.Values.{name_of}
 use Rattle.script_run.specs.Pairs.{each_of, named_of}
 use Rattle.script_run.proofs.Each.{behind_list}
 use Rattle.script_run.proofs.names.named_all.Given as goal

@@ -1,4 +1,4 @@
-use Rattle.std.proofs.Common.{◌≡◌, ◌<◌, ◌+◌, ◌∙◌, ap, sym, drop, slice_get, Some, None, arith}
+use Rattle.std.proofs.Common.{◌≡◌, ◌<◌, ◌+◌, ◌∙◌, ap, drop, slice_get, Some, arith}
 use Rattle.boki_types.specs.declared.program.Stmt.{Stmt}
 use Rattle.boki_model.specs.Script as script
 use Rattle.script_run.specs.Flows.{flow_of}

@@ -1,4 +1,4 @@
-use Rattle.std.proofs.Common.{◌≡◌, ◌+◌, drop}
+use Rattle.std.proofs.Common.{◌≡◌, drop}
 use Rattle.boki_model.specs.Script as script
 use Rattle.script_run.specs.Standing.{state_of}
 use Rattle.script_run.specs.Flows.{IsSmallAsk}
