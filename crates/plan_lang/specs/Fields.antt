@@ -9,6 +9,7 @@ use Rattle.script_lang.specs.declared.token.Token.{Token}
 use Rattle.script_lang.specs.declared.token.Token.TheVariants as t
 use Rattle.script_lang.specs.declared.rated.Rated.{Rated}
 use Rattle.script_lang.specs.declared.rated.Rated.TheVariants as r
+use Rattle.script_lang.specs.Stream.{behind}
 use Rattle.script_lang.specs.Statements.{◌>>=◌, Reader, both, fine_if, few, several, numeral_at, text_at}
 
 -- a numeral in a range
@@ -30,7 +31,7 @@ abbrev pub mode_of : List ℕ → Option Mode
 mode_of x = if bytes_eq x (codes "R") then Some mode.R else if bytes_eq x (codes "W") then Some mode.W else None
 
 abbrev pub mode_at : List Token → Option (Mode × List Token)
-mode_at (t.Name x ∷ ts) = option_map (λ m. (m, ts)) (mode_of x)
+mode_at (t.Name x ∷ ts) = behind ts (mode_of x)
 mode_at _ = None
 
 -- a quoted text of at most 256 bytes
@@ -97,7 +98,7 @@ path_in ns = path_by (parts_of ns)
 
 abbrev pub path_at : Reader (List ℕ)
 path_at (t.Num n ∷ ts) = Some (path_in (n ∷ []), ts)
-path_at (t.Dotted x ∷ ts) = option_map (λ ns. (path_in ns, ts)) (numbers_in x)
+path_at (t.Dotted x ∷ ts) = behind ts (option_map path_in (numbers_in x))
 path_at _ = None
 
 -- `S.L`: a shard, and a number from 1
@@ -106,10 +107,7 @@ sent_of shards (s ∷ l ∷ []) = Some (both (number_by 1 shards s) (number_by 1
 sent_of shards _ = None
 
 abbrev pub sent_at : ℕ → Reader (ℕ × ℕ)
-sent_at shards (t.Dotted x ∷ ts) = do
-  ns ← numbers_in x
-  sent ← sent_of shards ns
-  Some (sent, ts)
+sent_at shards (t.Dotted x ∷ ts) = behind ts (option_and_then (sent_of shards) (numbers_in x))
 sent_at shards _ = None
 
 -- A user's tag is below 2^56. One to eight of them, with commas between.

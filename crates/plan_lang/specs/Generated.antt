@@ -1,31 +1,31 @@
 -- The plan of so many transfers between ten accounts.
 use Rattle.std.specs.Prelude.{ℕ, zero, suc, ◌+◌, ◌*◌, ◌/◌, ◌%◌, pos, List, [], ◌∷◌, ◌++◌, Option, None, codes}
+use Rattle.std.specs.Fmt.{decimal}
 use Rattle.lb_base.specs.declared.value.Mode.TheVariants as mode
 use Rattle.lb_base.specs.declared.value.Value.{Value}
 use Rattle.lb_base.specs.declared.value.Value.TheVariants.{Int, Text}
 use Rattle.boki_types.specs.declared.event.Event.TheVariants as v
 use Rattle.boki_types.specs.declared.expr.BinOp.TheVariants as o
-use Rattle.boki_types.specs.declared.expr.Expr.{Expr}
 use Rattle.boki_types.specs.declared.expr.Expr.TheVariants as e
 use Rattle.boki_types.specs.declared.plan.Item.{Item}
 use Rattle.boki_types.specs.declared.plan.Item.TheVariants.{One, Repeat}
 use Rattle.boki_types.specs.declared.plan.Plan.{Plan}
 use Rattle.boki_types.specs.declared.plan.Setup.{Setup}
 use Rattle.boki_types.specs.declared.program.Function.{Function}
+use Rattle.boki_types.specs.declared.program.Stmt.{Stmt}
 use Rattle.boki_types.specs.declared.program.Stmt.TheVariants as s
 
--- account i is the letter `a` and a digit
+-- an account is the letter `a` and a digit
 abbrev pub account : ℕ → List ℕ
-account i = 97 ∷ (48 + i) ∷ []
+account digit = codes "a" ++ decimal digit
 
 abbrev pub rich : ℕ → List ℕ × Value
-rich i = (account i, Int (pos 1000))
+rich digit = (account digit, Int (pos 1000))
 
-abbrev pub accounts : List (List ℕ × Value)
-accounts = rich 0 ∷ rich 1 ∷ rich 2 ∷ rich 3 ∷ rich 4 ∷ rich 5 ∷ rich 6 ∷ rich 7 ∷ rich 8 ∷ rich 9 ∷ []
-
-abbrev pub var : List ℕ → Expr
-var x = e.Var x
+-- the first so many accounts, of 1000 each
+abbrev pub accounts : ℕ → List (List ℕ × Value)
+accounts zero = []
+accounts (suc n) = accounts n ++ rich n ∷ []
 
 -- function move(a, b, n)
 --   let x = read a
@@ -39,12 +39,12 @@ move = record {
   name = codes "move";
   params = codes "a" ∷ codes "b" ∷ codes "n" ∷ [];
   lines =
-    s.Read (codes "x") (var (codes "a"))
-    ∷ s.Read (codes "y") (var (codes "b"))
-    ∷ s.Write (var (codes "a")) (e.Two o.Sub (var (codes "x")) (var (codes "n")))
-    ∷ s.Write (var (codes "b")) (e.Two o.Add (var (codes "y")) (var (codes "n")))
-    ∷ s.Return (e.Two o.Sub (var (codes "x")) (var (codes "n")))
-    ∷ [];
+      s.Read (codes "x") (var (codes "a"))
+      ∷ s.Read (codes "y") (var (codes "b"))
+      ∷ s.Write (var (codes "a")) (e.Two o.Sub (var (codes "x")) (var (codes "n")))
+      ∷ s.Write (var (codes "b")) (e.Two o.Add (var (codes "y")) (var (codes "n")))
+      ∷ s.Return (e.Two o.Sub (var (codes "x")) (var (codes "n")))
+      ∷ [];
 }
 
 -- transfer i: between which accounts, and how much
@@ -71,7 +71,7 @@ all_moves (suc n) = all_moves n ++ move_items (suc n)
 abbrev pub transfers : ℕ → Plan
 transfers n = record {
   setup = record { shards = 4; replicas = 1; engines = 4; mode = mode.R; newer = None };
-  objects = accounts;
+  objects = accounts 10;
   program = record { functions = move ∷ [] };
   items = all_moves n;
 }

@@ -28,8 +28,8 @@ use Rattle.plan_lang.specs.Fields.{number_at, mode_at}
 -- the fifth number, where there is one
 abbrev pub newer_of : List Token → Option (Rated (Option ℕ))
 newer_of [] = Some (r.Fine None)
-newer_of (t ∷ ts) = do
-  n ← number_at 1 16 (t ∷ ts)
+newer_of (x ∷ ts) = do
+  n ← number_at 1 16 (x ∷ ts)
   alone n.1 (map_rated (λ k. Some k) n.0)
 
 abbrev pub checked : {A B : Type 0} → (A → Rated B) → Rated A → Rated B
@@ -71,6 +71,16 @@ lead_of close (t.Key k.Function ∷ ts) = lead.Function
 lead_of close (t.Name x ∷ ts) = lead_by close x
 lead_of close _ = lead.Other
 
+-- with the tokens behind that word; the head of a function is kept whole
+abbrev pub lead_rest : Lead → List Token → Lead × List Token
+lead_rest lead.Function ts = (lead.Function, ts)
+lead_rest lead.Object ts = (lead.Object, drop 1 ts)
+lead_rest lead.Close ts = (lead.Close, drop 1 ts)
+lead_rest lead.Other ts = (lead.Other, drop 1 ts)
+
+abbrev pub lead_at : List ℕ → List Token → Lead × List Token
+lead_at close ts = lead_rest (lead_of close ts) ts
+
 -- the head with what a line gives
 abbrev pub with_setup : Head → Option (Rated Setup) → Result Head Kind
 with_setup h None = Err kind.Syntax
@@ -90,23 +100,25 @@ with_draft h (Ok d) = Ok (record h { due = due.Functions; draft = d })
 
 abbrev pub closed_by : Head → List Token → Result Head Kind
 closed_by h [] = Ok (record h { due = due.Rest })
-closed_by h (t ∷ ts) = Err kind.Syntax
+closed_by h (x ∷ ts) = Err kind.Syntax
 
 -- objects may stand before the first function
 abbrev pub object_line : ℕ → List Token → Head → Due → Result Head Kind
-object_line n ts h due.Objects = with_object n h (object_of (drop 1 ts))
-object_line n ts h _ = Err kind.Syntax
+object_line n ts h due.Setup = Err kind.Syntax
+object_line n ts h due.Objects = with_object n h (object_of ts)
+object_line n ts h due.Functions = Err kind.Syntax
+object_line n ts h due.Rest = Err kind.Syntax
 
-abbrev pub led_line : List ℕ → ℕ → List Token → Head → Lead → Result Head Kind
-led_line close n ts h lead.Function = with_draft h (draft_line n ts h.draft)
-led_line close n ts h lead.Object = object_line n ts h h.due
-led_line close n ts h lead.Close = closed_by h (drop 1 ts)
-led_line close n ts h lead.Other = Err kind.Syntax
+abbrev pub led_line : ℕ → Head → Lead × List Token → Result Head Kind
+led_line n h (lead.Function, ts) = with_draft h (draft_line n ts h.draft)
+led_line n h (lead.Object, ts) = object_line n ts h h.due
+led_line n h (lead.Close, ts) = closed_by h ts
+led_line n h (lead.Other, ts) = Err kind.Syntax
 
 -- a line between functions, and one in a function
 abbrev pub between_line : List ℕ → ℕ → List Token → Head → Bool → Result Head Kind
 between_line close n ts h true = with_draft h (draft_line n ts h.draft)
-between_line close n ts h false = led_line close n ts h (lead_of close ts)
+between_line close n ts h false = led_line n h (lead_at close ts)
 
 abbrev pub due_line : List ℕ → ℕ → List Token → Head → Due → Result Head Kind
 due_line close n ts h due.Setup = with_setup h (setup_of ts)

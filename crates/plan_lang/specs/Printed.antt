@@ -52,37 +52,58 @@ pair_text word n m = word & decimal n & codes " " & decimal m
 abbrev pub triple_text : List ℕ → ℕ → ℕ → ℕ → List ℕ
 triple_text word n m k = word & decimal n & codes " " & decimal m & codes " " & decimal k
 
+-- the events that have more than numbers
+abbrev pub submit_text : List Function → ℕ → ℕ → ℕ → List Value → List ℕ
+submit_text fs engine request f args =
+    codes "submit " & decimal engine & codes " " & decimal request & codes " " & call_text fs f args
+
+abbrev pub start_text : ℕ → List ℕ → ℕ → List ℕ
+start_text attempt path engine =
+    codes "start " & decimal attempt & codes " " & path_text path & codes " " & decimal engine
+
+abbrev pub switch_text : ℕ → Mode → List ℕ
+switch_text engine target = codes "switch " & decimal engine & codes " " & mode_text target
+
+abbrev pub append_text : ℕ → List Tag → List ℕ → List ℕ
+append_text engine tags text =
+    codes "append " & decimal engine & codes " " & tags_text tags & codes " " & quoted text
+
+abbrev pub cond_text : ℕ → ℕ → List Tag → List ℕ → List ℕ
+cond_text engine place tags text =
+    codes "cond " & decimal engine & codes " " & decimal place & codes " " & tags_text tags & codes " " & quoted text
+
+abbrev pub settled_text : ℕ → ℕ → ℕ → List ℕ
+settled_text engine shard local =
+    codes "settled " & decimal engine & codes " " & decimal shard & codes "." & decimal local
+
+abbrev pub set_aux_text : ℕ → ℕ → List ℕ → List ℕ
+set_aux_text engine seq text = codes "setaux " & decimal engine & codes " " & decimal seq & codes " " & quoted text
+
 -- an event of a plan with these functions, without what stands before it on its line
 abbrev pub event_text : List Function → Event → List ℕ
-event_text fs (v.Submit engine request f args) =
-    codes "submit " & decimal engine & codes " " & decimal request & codes " " & call_text fs f args
+event_text fs (v.Submit engine request f args) = submit_text fs engine request f args
 event_text fs (v.Copy shard replica n) = triple_text (codes "copy ") shard replica n
 event_text fs v.Cut = codes "cut"
 event_text fs (v.Catch engine) = one_text (codes "catch ") engine
 event_text fs v.Sync = codes "sync"
 event_text fs (v.Restart engine) = one_text (codes "restart ") engine
-event_text fs (v.Start attempt path engine) =
-    codes "start " & decimal attempt & codes " " & path_text path & codes " " & decimal engine
+event_text fs (v.Start attempt path engine) = start_text attempt path engine
 event_text fs (v.Step attempt) = one_text (codes "step ") attempt
 event_text fs (v.Kill attempt) = one_text (codes "kill ") attempt
 event_text fs (v.Lose attempt) = one_text (codes "lose ") attempt
 event_text fs (v.Miss attempt) = one_text (codes "miss ") attempt
-event_text fs (v.Switch engine target) = codes "switch " & decimal engine & codes " " & mode_text target
+event_text fs (v.Switch engine target) = switch_text engine target
 event_text fs (v.EndSwitch engine) = one_text (codes "endswitch ") engine
 event_text fs (v.Trim engine) = one_text (codes "trim ") engine
 event_text fs (v.Sweep engine) = one_text (codes "sweep ") engine
-event_text fs (v.Append engine tags text) =
-    codes "append " & decimal engine & codes " " & tags_text tags & codes " " & quoted text
-event_text fs (v.Cond engine place tags text) =
-    codes "cond " & decimal engine & codes " " & decimal place & codes " " & tags_text tags & codes " " & quoted text
+event_text fs (v.Append engine tags text) = append_text engine tags text
+event_text fs (v.Cond engine place tags text) = cond_text engine place tags text
 event_text fs (v.Next engine tag from) = triple_text (codes "next ") engine tag.0 from.0
 event_text fs (v.Prev engine tag upto) = triple_text (codes "prev ") engine tag.0 upto.0
 event_text fs (v.Tail engine tag) = pair_text (codes "tail ") engine tag.0
 event_text fs (v.TrimTag engine tag upto) = triple_text (codes "trimtag ") engine tag.0 upto.0
-event_text fs (v.Settled engine shard local) =
-    codes "settled " & decimal engine & codes " " & decimal shard & codes "." & decimal local
-event_text fs (v.SetAux engine seq text) =
-    codes "setaux " & decimal engine & codes " " & decimal seq.0 & codes " " & quoted text
+event_text fs (v.Settled engine shard local) = settled_text engine shard local
+event_text fs (v.SetAux engine seq text) = set_aux_text engine seq.0 text
 event_text fs (v.GetAux engine seq) = pair_text (codes "getaux ") engine seq.0
 event_text fs (v.Seed n) = one_text (codes "seed ") n
 

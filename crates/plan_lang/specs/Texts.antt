@@ -27,20 +27,25 @@ refuse n k = faults.Refused n k
 abbrev pub Takes : Type 0 → Type 0
 Takes D = ℕ → List Token → D → Result D Kind
 
--- a line as tokens
+-- a line of a text that has at most so many lines
+abbrev pub line_by : Option (List ℕ) → Result Line Kind
+line_by None = Err kind.Utf8
+line_by (Some text) = Ok (line_of text)
+
+abbrev pub line_at : ℕ → ℕ → List ℕ → Result Line Kind
+line_at most n line = if nat_lt most n then Err kind.Lines else line_by (text_in line)
+
 abbrev pub spelled_line : {D : Type 0} → Takes D → ℕ → Line → D → Result D Kind
 spelled_line take n l.Skipped d = Ok d
 spelled_line take n (l.Tokens ts) d = take n ts d
 spelled_line take n l.Bad d = Err kind.Syntax
 
--- a line as text, where it is UTF-8
-abbrev pub text_line : {D : Type 0} → Takes D → ℕ → Option (List ℕ) → D → Result D Kind
-text_line take n None d = Err kind.Utf8
-text_line take n (Some text) d = spelled_line take n (line_of text) d
+abbrev pub read_line : {D : Type 0} → Takes D → ℕ → Result Line Kind → D → Result D Kind
+read_line take n (Err k) d = Err k
+read_line take n (Ok line) d = spelled_line take n line d
 
--- a line of a text that has at most so many
 abbrev pub whole_line : {D : Type 0} → Takes D → ℕ → ℕ → List ℕ → D → Result D Kind
-whole_line take most n line d = if nat_lt most n then Err kind.Lines else text_line take n (text_in line) d
+whole_line take most n line d = read_line take n (line_at most n line) d
 
 -- what is wrong with a last line without its line feed
 abbrev pub cut_by : Option (List ℕ) → Kind
@@ -122,3 +127,17 @@ Fails (faults.Refused n k) read = read ≡ Err (faults.Refused n k)
 abbrev pub Gives : {X : Type 0} → Result X PlanFault → Result X PlanFault → Type 0
 Gives (Ok x) read = read ≡ Ok x
 Gives (Err e) read = Fails e read
+
+-- what a call gave is what a line with this number says
+abbrev pub AddFails : {D : Type 0} → PlanFault → ℕ → Result D Kind → Type 0
+AddFails faults.Memory n read = Unit {0}
+AddFails (faults.Refused m k) n read = (m ≡ n) × (read ≡ Err k)
+
+abbrev pub AddGives : {D : Type 0} → Result D PlanFault → ℕ → Result D Kind → Type 0
+AddGives (Ok d) n read = read ≡ Ok d
+AddGives (Err e) n read = AddFails e n read
+
+-- the fault of a line with this number
+abbrev pub at_line : ℕ → LineFault → PlanFault
+at_line n (line_faults.Refused k) = faults.Refused n k
+at_line n line_faults.Memory = faults.Memory

@@ -3,19 +3,32 @@
 #![tactic(auto)]
 
 mod bodies;
+mod dotted;
 mod drafts;
+mod entries;
 mod events;
 mod fault;
+mod fields;
 mod generator;
 mod heads;
+mod naming;
 mod parsing;
+mod plan_text;
 mod printing;
+mod records;
+mod report;
+mod tags;
+#[cfg(test)]
+mod tests;
 mod turns;
+mod validity;
 mod verb;
 
 pub use boki_types::{Event, Item, Kind, Plan, Report, Setup, Turn, TurnText};
 pub use fault::PlanFault;
 pub use generator::make_plan;
-pub use parsing::parse_plan;
-pub use printing::{print_event, print_plan, print_report};
-pub use turns::parse_turns;
+pub use parsing::{parse_plan, parse_turns};
+pub use plan_text::print_plan;
+pub use printing::print_event;
+pub use report::{print_report, print_turn};
+pub use validity::valid;
