@@ -56,4 +56,5 @@ pub mod Operates
 pub mod Moves
 pub mod Misses
 pub mod Duplicates
+pub mod Effects
 pub mod Laws

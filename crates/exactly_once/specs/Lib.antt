@@ -13,3 +13,4 @@ pub mod Versions
 pub mod Moves
 pub mod Exact
 pub mod Laws
+pub mod Ended
