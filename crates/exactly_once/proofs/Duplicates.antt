@@ -1,30 +1,26 @@
 -- Duplicates agree: the answers of an attempt are the first ones that its invocation has decided.
-use Rattle.std.proofs.Common.{◌≡◌, ◌⊎◌, inl, inr, ⊎_elim, ℕ, zero, suc, ◌+◌, ◌-◌, ◌<◌, ◌≤◌, Bool, true, false, cond, leb, List, [], ◌∷◌, length, map, Option, Some, None, refl, sym, ap, ◌∙◌, subst, arith}
+use Rattle.std.proofs.Common.{◌≡◌, ◌⊎◌, inl, inr, ⊎_elim, ℕ, zero, suc, ◌+◌, ◌-◌, ◌<◌, ◌≤◌, Bool, true, false, cond, leb, List, [], ◌∷◌, length, Option, Some, None, refl, sym, ap, ◌∙◌, subst, arith}
 use Rattle.std.specs.Prelude.{drop}
 use Rattle.std.specs.List.{AllByRecursion}
 use Rattle.std.proofs.lemmas.Bool.{cases_lt}
 use Rattle.lb_base.specs.declared.value.Mode.{Mode}
 use Rattle.lb_base.specs.declared.value.Mode.TheVariants.{R, W, T}
 use Rattle.boki_types.specs.declared.body.Body.{Body}
-use Rattle.boki_types.specs.declared.operation.Op.TheVariants as o
-use Rattle.boki_types.specs.declared.operation.Ask.{Ask}
-use Rattle.boki_types.specs.declared.operation.Ask.TheVariants as k
 use Rattle.boki_types.specs.declared.operation.Answer.{Answer}
-use Rattle.boki_types.specs.declared.operation.Answer.TheVariants as a
 use Rattle.boki_types.specs.declared.plan.Setup.{Setup}
 use Rattle.boki_types.specs.declared.program.Function.{Function}
 use Rattle.boki_model.specs.Live.{Live, upto}
 use Rattle.boki_model.specs.Bodies.{step_of}
 use Rattle.boki_model.specs.Writes.{Store, versions_at}
 use Rattle.boki_machine.specs.Attempt.{Attempt}
-use Rattle.boki_machine.specs.Decided.{Point, point, asked_at, free_answer, and_answer, own_answer, more, operated, stepped, advanced, oldest, decided}
+use Rattle.boki_machine.specs.Decided.{Point, point, asked_at, free_answer, and_answer, own_answer, more, oldest, decided}
 use Rattle.exactly_once.specs.Sound.{frees_to}
-use Rattle.exactly_once.specs.Invariant.{World, records, values, Logs, IsFresh, Follows, IsFollowing, Holds}
+use Rattle.exactly_once.specs.Invariant.{World, records, values, IsFresh, Follows, IsFollowing, Holds}
 use Rattle.exactly_once.proofs.Tails.{Tail, here, there, longer, shorter}
-use Rattle.exactly_once.proofs.Lives.{Under, live_under}
+use Rattle.exactly_once.proofs.Lives.{live_under}
 use Rattle.exactly_once.proofs.Points.{stands, Does, does, apart, began, operates, ends}
 use Rattle.exactly_once.proofs.SamePlace.{same_more, cursor_upto, under_upto, fit_upto}
-use Rattle.exactly_once.proofs.Frees.{on, on_least, long_reaches}
+use Rattle.exactly_once.proofs.Frees.{on}
 use Rattle.exactly_once.proofs.Cursors.{no_free, free_between, frees_most}
 use Rattle.exactly_once.proofs.Histories.{upto_tail, fit_tail}
 use Rattle.exactly_once.proofs.Origins.{IsLogged, origin}

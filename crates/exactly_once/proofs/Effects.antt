@@ -1,6 +1,5 @@
 -- What a step does to the store, by the cases of the step table; and the store call of a step whose answer is lost is its own.
-use Rattle.std.proofs.Common.{◌≡◌, ◌⊎◌, inl, inr, ℕ, zero, suc, Bool, true, false, cond, ltb, ◌||◌, List, [], ◌∷◌, Option, Some, None, refl, sym, ap, ◌∙◌, subst}
-use Rattle.std.specs.Prelude.{is_some}
+use Rattle.std.proofs.Common.{◌≡◌, ◌⊎◌, inl, inr, ℕ, zero, suc, Bool, true, false, cond, ltb, ◌||◌, List, [], ◌∷◌, Option, Some, None, refl, sym, ap, ◌∙◌}
 use Rattle.lb_base.specs.declared.value.Value.{Value}
 use Rattle.lb_base.specs.declared.value.Mode.{Mode}
 use Rattle.lb_base.specs.declared.value.Mode.TheVariants.{R, W, T}
@@ -28,9 +27,9 @@ use Rattle.boki_model.specs.Live.{Live}
 use Rattle.boki_model.specs.Reads.{nth}
 use Rattle.boki_model.specs.Bodies.{step_tag, step_of, child}
 use Rattle.boki_model.specs.Modes.{result_of}
-use Rattle.boki_model.specs.Writes.{Store, Raised, fence, read_free, read_fenced, raised, after_fenced, has_version, put_at, put_by, puts_in, after_put, name_if_new, after_named}
+use Rattle.boki_model.specs.Writes.{Store, Raised, fence, read_free, read_fenced, raised, after_fenced, has_version, put_at, put_by, after_put, name_if_new, after_named}
 use Rattle.boki_machine.specs.Attempt.{Attempt, Move, next_index, moves, sends_record, answered_with, call_of}
-use Rattle.boki_machine.specs.Step.{has_index, seqnum, gone, or_none, pairs, read_all, name_for, adopts_answer, adopts_marker, adopts_join, adopts_operation, reads, reads_group, logs_write, is_inline, puts_free, writes, joins, operates, unless_waiting, asks, answers_to, takes, begins, asked_by, goes_on, placed, with_call, if_running, step, Missed, nothing_missed, misses_marker, misses_record, misses_put, misses_store, misses_write, misses_asked, misses_at, misses_placed, misses_with, misses_if, miss}
+use Rattle.boki_machine.specs.Step.{has_index, seqnum, gone, or_none, pairs, read_all, name_for, adopts_answer, adopts_marker, adopts_join, adopts_operation, reads, reads_group, logs_write, is_inline, puts_free, writes, joins, operates, unless_waiting, asks, answers_to, takes, begins, asked_by, placed, with_call, if_running, step, Missed, nothing_missed, misses_marker, misses_record, misses_put, misses_store, misses_write, misses_asked, misses_at, misses_placed, misses_with, misses_if, miss}
 
 -- the keys that a marker reads
 abbrev pub keys_of : Body → Option (List (List ℕ))

@@ -1,5 +1,5 @@
 -- A step leaves an attempt on its engine, and the initial objects as they are; and positions rise where an engine catches up.
-use Rattle.std.proofs.Common.{◌≡◌, ℕ, zero, suc, ◌-◌, ◌≤◌, Bool, true, false, cond, ltb, ◌||◌, List, [], ◌∷◌, length, map, Option, Some, None, refl, ap, arith}
+use Rattle.std.proofs.Common.{◌≡◌, ℕ, zero, suc, ◌≤◌, Bool, true, false, cond, ltb, ◌||◌, List, [], ◌∷◌, map, Option, Some, None, refl, ap, arith}
 use Rattle.std.specs.Prelude.{slice_index, slice_set}
 use Rattle.std.specs.List.{AllByRecursion}
 use Rattle.lb_base.specs.declared.value.Value.{Value}
@@ -32,7 +32,7 @@ use Rattle.boki_model.specs.Bodies.{step_tag, child}
 use Rattle.boki_model.specs.Modes.{result_of}
 use Rattle.boki_model.specs.Writes.{Store, read_free, read_fenced, raised, after_fenced, put_at, puts_in, after_put, name_if_new, after_named}
 use Rattle.boki_machine.specs.Attempt.{Attempt, Move, moves, sends_record, answered_with, call_of}
-use Rattle.boki_machine.specs.Step.{seqnum, gone, or_none, pairs, read_all, name_for, adopts_answer, adopts_marker, adopts_join, adopts_operation, reads, reads_group, logs_write, is_inline, puts_free, writes, joins, operates, unless_waiting, asks, answers_to, takes, begins, asked_by, goes_on, placed, with_call, if_running, step, Missed, nothing_missed, misses_marker, misses_record, misses_put, misses_store, misses_write, misses_asked, misses_at, misses_placed, misses_with, misses_if, miss}
+use Rattle.boki_machine.specs.Step.{seqnum, gone, or_none, pairs, read_all, name_for, adopts_answer, adopts_marker, adopts_join, adopts_operation, reads, reads_group, logs_write, is_inline, puts_free, writes, joins, operates, unless_waiting, asks, answers_to, takes, begins, asked_by, placed, with_call, if_running, step, Missed, nothing_missed, misses_marker, misses_record, misses_put, misses_store, misses_write, misses_asked, misses_at, misses_placed, misses_with, misses_if, miss}
 
 -- The objects that a store began with stay.
 

@@ -1,8 +1,8 @@
 -- Every event keeps the invariant.
-use Rattle.std.proofs.Common.{◌≡◌, inl, inr, ⊎_elim, ℕ, zero, suc, ◌+◌, ◌-◌, ◌≤◌, Bool, true, false, cond, eqb, ltb, leb, ◌&&◌, List, [], ◌∷◌, ◌++◌, length, map, Option, Some, None, refl, sym, ap, ◌∙◌, subst, arith}
-use Rattle.std.specs.Prelude.{slice_index, slice_set, slice_index_or, IsTrue}
+use Rattle.std.proofs.Common.{◌≡◌, inl, inr, ℕ, ◌+◌, ◌-◌, ◌≤◌, Bool, true, false, cond, eqb, leb, ◌&&◌, List, [], ◌∷◌, length, map, Option, Some, None, refl, sym, ◌∙◌, subst, arith}
+use Rattle.std.specs.Prelude.{slice_index, slice_set}
 use Rattle.std.specs.List.{list_all, AllByRecursion}
-use Rattle.std.proofs.lemmas.Bool.{and_parts, and_from, leb-true, eqb-false, and_cases}
+use Rattle.std.proofs.lemmas.Bool.{and_parts, leb-true, eqb-false}
 use Rattle.lb_base.specs.Path.{is_request, is_path}
 use Rattle.lb_base.specs.declared.value.Tag.{Tag}
 use Rattle.lb_base.specs.declared.value.Mode.{Mode}
@@ -10,29 +10,25 @@ use Rattle.lb_base.specs.declared.value.Value.{Value}
 use Rattle.lb_base.specs.declared.value.Cond.{Cond}
 use Rattle.boki_types.specs.declared.body.Body.{Body}
 use Rattle.boki_types.specs.declared.body.Body.TheVariants as b
-use Rattle.boki_types.specs.declared.event.Event.{Event}
 use Rattle.boki_types.specs.declared.event.Event.TheVariants as v
 use Rattle.boki_types.specs.declared.line.Line.TheVariants as l
 use Rattle.boki_types.specs.declared.line.Life.{Life}
 use Rattle.boki_types.specs.declared.line.Life.TheVariants.{Running, Over, Stopped, Killed}
-use Rattle.boki_types.specs.declared.log.Call.{Call}
 use Rattle.boki_types.specs.declared.plan.Setup.{Setup}
 use Rattle.boki_types.specs.declared.program.Function.{Function}
 use Rattle.boki_model.specs.Live.{Entry, Live}
 use Rattle.boki_model.specs.Order.{added, last_vector, order, progress}
-use Rattle.boki_model.specs.OrderLaws.{AreAtMost, Grow, Have, add_to}
+use Rattle.boki_model.specs.OrderLaws.{AreAtMost, add_to}
 use Rattle.boki_model.specs.Modes.{Switch, least_open, modes}
 use Rattle.boki_model.specs.Bodies.{is_value}
 use Rattle.boki_model.specs.Floor.{may_trim}
-use Rattle.boki_model.specs.Plans.{is_event, from_to, is_word, is_attempt, is_one_of, is_user_tag, are_user_tags}
+use Rattle.boki_model.specs.Plans.{from_to, is_word, is_attempt, is_one_of, is_user_tag, are_user_tags}
 use Rattle.boki_model.proofs.Orders.{have_more, order_stays}
-use Rattle.boki_machine.specs.Attempt.{Attempt, Move, new_attempt}
+use Rattle.boki_machine.specs.Attempt.{Attempt, Move}
 use Rattle.boki_machine.specs.Step.{is_running, loses, after_kill, after_lose, step, name_at}
-use Rattle.boki_machine.specs.Machine.{Machine, Numbered, log, live_log, view, position, home, next_sent, append_to, plain, submits, entry, first_tag, copies, copied, counts_of, cut, cuts_nothing, caught_up, all_caught_up, attempt_at, set_attempt, with_attempt, runs_on, kill_on, restarts, starts, moved, sends_step, steps, kills, loses_record, misses, sweeps, ends_if_closed, ends_switch, sets_aux, gets_aux, aux_at, aux_of, uses, done, happens}
-use Rattle.exactly_once.specs.Steps.{IsOwn}
+use Rattle.boki_machine.specs.Machine.{Machine, Numbered, log, live_log, view, position, home, next_sent, append_to, plain, submits, entry, first_tag, copies, copied, counts_of, cut, cuts_nothing, caught_up, all_caught_up, attempt_at, set_attempt, with_attempt, runs_on, kill_on, restarts, starts, moved, sends_step, steps, kills, loses_record, misses, sweeps, ends_if_closed, ends_switch, sets_aux, gets_aux, aux_at, aux_of, uses, done}
 use Rattle.exactly_once.specs.Invariant.{World, records, values, IsAsked, IsSeen, IsFollowing, position_of, IsAmong, Holds}
 use Rattle.exactly_once.specs.Opening.{all_of, world_of}
-use Rattle.exactly_once.specs.Events.{sends_nothing}
 use Rattle.exactly_once.specs.Moves.{with_sent, behind_move, MoveKeeps, MovesKeep, MissesKeep}
 use Rattle.exactly_once.specs.Exact.{MachineHolds, EventsKeep}
 use Rattle.exactly_once.proofs.Each.{each_weaker}
@@ -153,16 +149,15 @@ module _ (setup : Setup) (fs : List Function) (m : Machine) (good : MachineHolds
 
   cut_holds : MachineHolds setup fs (cut m)
   cut_holds =
-      elim (cuts_nothing m) as (λ t. MachineHolds setup fs (cond t m (record m { vectors = progress m.shards m.counts ∷ m.vectors })))
-      [
+      elim (cuts_nothing m) as (λ t. MachineHolds setup fs (cond t m (record m { vectors = progress m.shards m.counts ∷ m.vectors }))) [
         | true ↦ good
         | false ↦ record {
-            holds = orders_all setup fs (world_of m) (added m.shards (last_vector m.vectors) (progress m.shards m.counts)) good.holds (added_among m.shards (last_vector m.vectors) (progress m.shards m.counts));
-            grow = (good.replicas, good.grow);
-            have = progress_have m.shards m.counts;
-            replicas = at_most_itself (progress m.shards m.counts);
-            engines = good.engines;
-          }
+          holds = orders_all setup fs (world_of m) (added m.shards (last_vector m.vectors) (progress m.shards m.counts)) good.holds (added_among m.shards (last_vector m.vectors) (progress m.shards m.counts));
+          grow = (good.replicas, good.grow);
+          have = progress_have m.shards m.counts;
+          replicas = at_most_itself (progress m.shards m.counts);
+          engines = good.engines;
+        }
       ]
 
   -- positions under which each running attempt sees its cursor
@@ -222,7 +217,7 @@ module _ (setup : Setup) (fs : List Function) (m : Machine) (good : MachineHolds
   restart_holds : (engine : ℕ) → 1 ≤ engine → MachineHolds setup fs (restarts engine m)
   restart_holds engine one =
       let killed = (steps_keep setup fs (world_of m) good.holds).move (map (λ x. x.attempt) (kill_on engine m.attempts))
-          (kill_each (Follow m.positions) (Follow m.positions) engine m.attempts (λ a on is. killed_now engine a is) good.engines good.holds.attempts) in
+      (kill_each (Follow m.positions) (Follow m.positions) engine m.attempts (λ a on is. killed_now engine a is) good.engines good.holds.attempts) in
       record {
         holds = (steps_keep setup fs (record (world_of m) { attempts = map (λ x. x.attempt) (kill_on engine m.attempts) }) killed).catch (slice_set m.positions (engine - 1) 0)
             (within_set (length (log m)) (engine - 1) 0 m.positions (omega arith) good.holds.positions)

@@ -180,7 +180,7 @@ below_counted (b.Trim w) seq x behind xs p t holds lt = at (leb w seq) (all_ende
     at false d all lt = absurd (omega arith)
 below_counted _ seq x behind xs p t holds lt = absurd (omega arith)
 
-below_floor : (x : Live Body) (behind : List (Live Body)) (n : ℕ) (xs : List (Live Body)) (p : List ℕ) → Under n xs → Tail (x ∷ behind) xs → x.holds ≡ b.Init p → x.seq < floor xs → IsEnded p xs
+pub below_floor : (x : Live Body) (behind : List (Live Body)) (n : ℕ) (xs : List (Live Body)) (p : List ℕ) → Under n xs → Tail (x ∷ behind) xs → x.holds ≡ b.Init p → x.seq < floor xs → IsEnded p xs
 below_floor x behind n xs p under here holds lt =
     let none : counted x.holds x.seq behind ≡ 0 = ap (λ body. counted body x.seq behind) holds in
     absurd (let h : ⊥ = omega (arith, lt, none, floor_within under.0 behind under.3, under.1) in h)

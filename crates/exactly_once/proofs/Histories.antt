@@ -1,6 +1,6 @@
 -- Where an invocation stands: the records of its Init and of its cursor.
-use Rattle.std.proofs.Common.{◌≡◌, ◌⊎◌, inl, inr, ⊎_elim, ℕ, suc, ◌<◌, ◌≤◌, Bool, true, false, cond, leb, List, [], ◌∷◌, length, Option, Some, None, refl, sym, ap, ◌∙◌, subst, arith}
-use Rattle.std.specs.Prelude.{bytes_eq, is_some, IsTrue}
+use Rattle.std.proofs.Common.{◌≡◌, ◌⊎◌, inl, inr, ⊎_elim, ℕ, ◌<◌, ◌≤◌, Bool, true, false, cond, leb, List, [], ◌∷◌, Some, None, refl, sym, ap, ◌∙◌, subst, arith}
+use Rattle.std.specs.Prelude.{is_some}
 use Rattle.std.proofs.lemmas.Bool.{leb-true, le-leb}
 use Rattle.boki_types.specs.declared.body.Body.{Body}
 use Rattle.boki_types.specs.declared.body.Body.TheVariants as b
@@ -10,11 +10,11 @@ use Rattle.boki_model.specs.Live.{Live, upto}
 use Rattle.boki_model.specs.Bodies.{step_of}
 use Rattle.boki_model.specs.Modes.{result_of, mode_behind}
 use Rattle.boki_model.specs.Writes.{Store}
-use Rattle.boki_machine.specs.Decided.{Point, unknown}
+use Rattle.boki_machine.specs.Decided.{Point}
 use Rattle.exactly_once.specs.Sound.{AllFit}
 use Rattle.exactly_once.specs.Exclusion.{IsEnded}
 use Rattle.exactly_once.proofs.Tails.{Tail, here, there, tail_cases}
-use Rattle.exactly_once.proofs.Lives.{Under, tail_within, tail_below}
+use Rattle.exactly_once.proofs.Lives.{Under, tail_below}
 use Rattle.exactly_once.proofs.Points.{stands, Does, does, apart, began, operates, ends, unbegun, result_is}
 
 -- Of two parts of a history, one lies behind the other.

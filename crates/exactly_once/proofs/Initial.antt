@@ -1,6 +1,5 @@
 -- No event changes the objects that a machine's store began with.
-use Rattle.std.proofs.Common.{◌≡◌, ℕ, Bool, true, false, cond, leb, ◌&&◌, List, [], ◌∷◌, Option, Some, None, refl, sym, ◌∙◌}
-use Rattle.lb_base.specs.declared.value.Value.{Value}
+use Rattle.std.proofs.Common.{◌≡◌, ℕ, Bool, true, false, cond, leb, ◌&&◌, List, [], ◌∷◌, Option, Some, None, refl, ◌∙◌}
 use Rattle.boki_types.specs.declared.body.Body.{Body}
 use Rattle.boki_types.specs.declared.event.Event.{Event}
 use Rattle.boki_types.specs.declared.event.Event.TheVariants as v
@@ -12,7 +11,7 @@ use Rattle.boki_model.specs.Modes.{Switch, least_open, modes}
 use Rattle.boki_model.specs.Order.{progress}
 use Rattle.boki_machine.specs.Attempt.{Attempt}
 use Rattle.boki_machine.specs.Step.{step}
-use Rattle.boki_machine.specs.Machine.{Machine, view, position, next_sent, append, done, uses, cut, cuts_nothing, attempt_at, starts, sends_step, with_attempt, steps, kills, loses_record, misses, ends_if_closed, ends_switch, sets_aux, gets_aux, aux_at, aux_of, happens, run}
+use Rattle.boki_machine.specs.Machine.{Machine, view, position, next_sent, done, uses, cut, cuts_nothing, attempt_at, starts, sends_step, with_attempt, steps, kills, loses_record, misses, ends_if_closed, ends_switch, gets_aux, aux_at, aux_of, happens, run}
 use Rattle.exactly_once.proofs.Engines.{step_stays, miss_same}
 
 module _ (setup : Setup) (fs : List Function) (m : Machine) where

@@ -1,22 +1,20 @@
 -- Beyond the cursor of an attempt that may put in a version, its invocation has no step record; and no invocation of mode R
 -- stands at or above it.
-use Rattle.std.proofs.Common.{◌≡◌, ◌⊎◌, inl, inr, ⊎_elim, ℕ, suc, ◌<◌, ◌≤◌, Bool, true, false, cond, leb, List, [], ◌∷◌, length, Option, Some, None, refl, sym, ap, ◌∙◌, subst, arith}
-use Rattle.std.specs.Prelude.{bytes_eq, is_some}
+use Rattle.std.proofs.Common.{◌≡◌, ◌⊎◌, inl, inr, ⊎_elim, ℕ, ◌<◌, ◌≤◌, Bool, true, false, cond, leb, List, [], ◌∷◌, length, Option, Some, None, refl, sym, ap, ◌∙◌, arith}
+use Rattle.std.specs.Prelude.{is_some}
 use Rattle.std.proofs.lemmas.Bool.{cases_lt}
 use Rattle.lb_base.specs.declared.value.Value.{Value}
 use Rattle.lb_base.specs.declared.value.Mode.TheVariants.{R, W}
 use Rattle.boki_types.specs.declared.body.Body.{Body}
-use Rattle.boki_types.specs.declared.body.Body.TheVariants as b
 use Rattle.boki_types.specs.declared.plan.Setup.{Setup}
 use Rattle.boki_types.specs.declared.program.Function.{Function}
 use Rattle.boki_model.specs.Live.{Live, upto}
 use Rattle.boki_model.specs.Bodies.{step_of}
 use Rattle.boki_model.specs.Modes.{result_of, mode_behind}
-use Rattle.boki_model.specs.Writes.{Store, Raised}
+use Rattle.boki_model.specs.Writes.{Store}
 use Rattle.boki_machine.specs.Attempt.{Attempt}
 use Rattle.boki_machine.specs.Decided.{Point, point}
 use Rattle.exactly_once.specs.Sound.{AllFit}
-use Rattle.exactly_once.specs.Exclusion.{IsEnded}
 use Rattle.exactly_once.specs.Steps.{is_step_of, steps_of}
 use Rattle.exactly_once.specs.Invariant.{World, records, values, Holds}
 use Rattle.exactly_once.proofs.Tails.{Tail, here, there, longer, shorter}
@@ -26,12 +24,12 @@ use Rattle.exactly_once.proofs.Exclusion.{tails_exclude, ended_later}
 use Rattle.exactly_once.proofs.Points.{stands, cursor_within, result_is}
 use Rattle.exactly_once.proofs.SamePlace.{IsSamePlace, same_point, skipped}
 use Rattle.exactly_once.proofs.Histories.{compare_tails, upto_tail, under_at, not_leb, one_record, fit_tail, HasInit, has_init, ended_stays}
-use Rattle.exactly_once.proofs.Origins.{IsLogged, Origin, origin}
+use Rattle.exactly_once.proofs.Origins.{origin}
 use Rattle.exactly_once.proofs.Writers.{IsWriter, its, its_mode, logs_apart}
 
 -- The first step record of an invocation above a seqnum.
 
-record FirstAbove (setup : Setup) (fs : List Function) (store : Store) (p : List ℕ) (c : ℕ) (all ys : List (Live Body)) : Type 0 where
+pub record FirstAbove (setup : Setup) (fs : List Function) (store : Store) (p : List ℕ) (c : ℕ) (all ys : List (Live Body)) : Type 0 where
   pub step : Live Body
   pub rest : List (Live Body)
   pub tail : Tail (step ∷ rest) ys
@@ -44,7 +42,7 @@ step_index p None e = cc
 step_index p (Some s) e = (s.1, λ i. Some ((sym (same_key p s.0 e)) i, s.1))
 
 module _ (setup : Setup) (fs : List Function) (store : Store) (p : List ℕ) (c : ℕ) (all : List (Live Body)) where
-  first_above : (ys : List (Live Body)) → upto c ys ≡ upto c all → IsSamePlace p c ys ⊎ FirstAbove setup fs store p c all ys
+  pub first_above : (ys : List (Live Body)) → upto c ys ≡ upto c all → IsSamePlace p c ys ⊎ FirstAbove setup fs store p c all ys
   first_above [] e = inl refl
   first_above (y ∷ ys) e = at (first_above ys) (leb y.seq c) refl e
     where
@@ -106,7 +104,7 @@ module _ (setup : Setup) (fs : List Function) (w : World) (holds : Holds setup f
           (λ may. let no_way : true ≡ false = sym (ap (λ (st : Point). st.begun) same ∙ writer.follows.begun) ∙ may.new in cc)
           (λ l. logs_apart setup fs store w.store.fences n now under holds.sound a key value writer a.path (upto o.c now) f.index l.ask (upto_tail o.c now) l.logs (ap (λ (st : Point). st.cursor) same ∙ writer.follows.cursor)) o.logs
 
-  unended_now : result_of a.path now ≡ None
+  pub unended_now : result_of a.path now ≡ None
   unended_now =
       sym (result_is setup fs store now a.path holds.sound.fit)
       ∙ ap (λ (st : Point). st.result) (same_point setup fs store a.path a.cursor now no_later) ∙ writer.follows.unended
@@ -150,8 +148,8 @@ module _ (setup : Setup) (fs : List Function) (w : World) (holds : Holds setup f
           ⊎_elim
           (λ s. let le = cursor_within setup fs store u.0 ys q (under_tail ys u.0 hp.behind u.3 s) fit_ys in omega (arith, le, first, low, cursor))
           (λ s.
-              let le = cursor_within setup fs store u.0 hp.behind q u.3 (fit_tail setup fs store hp.behind ys s fit_ys) in
-              let same = ap (λ (st : Point). st.cursor) (ended_stays setup fs store q hp.behind ys s fit_ys ended) in omega (arith, le, same, first, low, cursor))
+          let le = cursor_within setup fs store u.0 hp.behind q u.3 (fit_tail setup fs store hp.behind ys s fit_ys) in
+          let same = ap (λ (st : Point). st.cursor) (ended_stays setup fs store q hp.behind ys s fit_ys ended) in omega (arith, le, same, first, low, cursor))
           (compare_tails ys hp.behind now t (shorter tp))
 
       ended_other : hp.init.seq < hq.init.seq → ⊥

@@ -57,4 +57,5 @@ pub mod Moves
 pub mod Misses
 pub mod Duplicates
 pub mod Effects
+pub mod Ended
 pub mod Laws

@@ -66,7 +66,7 @@ module _ (setup : Setup) (fs : List Function) (store : Store) (fences : List Rai
       }
 
   -- so what it logs at a place is the same
-  one_ask : (c d i j : ℕ) (one two : Ask) → place_at c ≡ place_at d → LogsAt c i one → LogsAt d j two → one ≡ two
+  pub one_ask : (c d i j : ℕ) (one two : Ask) → place_at c ≡ place_at d → LogsAt c i one → LogsAt d j two → one ≡ two
   one_ask c d i j one two places logs others =
       ⊎_elim (λ e. from (omega (arith, e))) (λ h. ⊎_elim (λ lt. from (omega (arith, lt))) (λ gt. same_ask fs store (upto c now) p (stands setup fs store p (upto c now)) fences i j one two logs (logs_later d c j two (omega (arith, gt)) (sym places) others)) h) (cases_order c d)
     where

@@ -1,10 +1,8 @@
 -- Each live step record was sent, and its invocation asked it where it stood then.
-use Rattle.std.proofs.Common.{◌≡◌, ◌⊎◌, inl, inr, ⊎_elim, ℕ, suc, ◌≤◌, Bool, true, false, cond, leb, eqb, List, [], ◌∷◌, length, Option, Some, None, refl, sym, ap, ◌∙◌, subst, arith}
-use Rattle.std.specs.Prelude.{bytes_eq, IsTrue}
+use Rattle.std.proofs.Common.{◌≡◌, ◌⊎◌, inl, inr, ⊎_elim, ℕ, suc, ◌≤◌, Bool, true, false, cond, eqb, List, [], ◌∷◌, length, Option, Some, None, refl, sym, ap, ◌∙◌, subst, arith}
 use Rattle.std.specs.List.{AllByRecursion}
 use Rattle.std.proofs.lemmas.Bool.{and_parts, eqb-true}
 use Rattle.lb_base.specs.Path.{IsPath}
-use Rattle.lb_base.specs.declared.value.Cond.{Cond}
 use Rattle.boki_types.specs.declared.body.Body.{Body}
 use Rattle.boki_types.specs.declared.body.Body.TheVariants as b
 use Rattle.boki_types.specs.declared.operation.Op.TheVariants as o
@@ -16,12 +14,11 @@ use Rattle.boki_model.specs.Live.{Entry, Live, meets, live, upto}
 use Rattle.boki_model.specs.Bodies.{step_of}
 use Rattle.boki_model.specs.Writes.{Store, Raised}
 use Rattle.boki_machine.specs.Decided.{Point, point}
-use Rattle.exactly_once.specs.Sound.{MayBegin, AllFit}
-use Rattle.exactly_once.specs.Steps.{has_paths, is_path_of, IsOwn, at_place, is_step_of, steps_of}
+use Rattle.exactly_once.specs.Sound.{MayBegin}
+use Rattle.exactly_once.specs.Steps.{has_paths, is_path_of, IsOwn, is_step_of, steps_of}
 use Rattle.exactly_once.specs.Invariant.{World, records, values, Logs, IsNext, IsStep, IsOfKind, IsAsked, IsAmong, Holds}
 use Rattle.exactly_once.proofs.Tails.{Tail, here, there, tail_cases, shorter}
 use Rattle.exactly_once.proofs.Each.{each_weaker, each_tail}
-use Rattle.exactly_once.proofs.Maps.{same_key}
 use Rattle.exactly_once.proofs.Points.{stands}
 use Rattle.exactly_once.proofs.Steps.{in_order}
 use Rattle.exactly_once.proofs.SamePlace.{point_apart, place_is}
@@ -50,9 +47,9 @@ entry_of x xs (r ∷ log) t = at (entry_of x xs log) (meets r.condition (live lo
     at ih true e t =
         ⊎_elim
         (λ same.
-            let first : x ≡ record { seq = suc (length log); tags = r.tags; holds = r.holds } = cc in
-            let rest : xs ≡ live log = cc in
-            record { entry = r; older = log; tail = here; holds_is = sym (ap (λ (x : Live Body). x.holds) first); behind = rest; met = e })
+        let first : x ≡ record { seq = suc (length log); tags = r.tags; holds = r.holds } = cc in
+        let rest : xs ≡ live log = cc in
+        record { entry = r; older = log; tail = here; holds_is = sym (ap (λ (x : Live Body). x.holds) first); behind = rest; met = e })
         (λ t. later (ih t)) (tail_cases t)
 
 path_of_step : (p : List ℕ) (i : ℕ) (s : Option (List ℕ × ℕ)) → s ≡ Some (p, i) → is_path_of s ≡ true → IsPath p

@@ -2,9 +2,8 @@
 use Rattle.std.proofs.Common.{◌≡◌, ℕ, zero, suc, ◌-◌, ◌<◌, ◌≤◌, Bool, true, false, cond, eqb, ◌&&◌, List, [], ◌∷◌, ◌++◌, length, Option, Some, None, option_map, refl, sym, ap, ◌∙◌, subst, arith}
 use Rattle.std.specs.Prelude.{bytes_eq, is_some}
 use Rattle.std.proofs.lemmas.Bool.{and_parts, eqb-true}
-use Rattle.lb_base.specs.declared.value.Value.{Value}
 use Rattle.lb_base.specs.declared.value.Mode.{Mode}
-use Rattle.lb_base.specs.declared.value.Mode.TheVariants.{R, W, T}
+use Rattle.lb_base.specs.declared.value.Mode.TheVariants.{R, W}
 use Rattle.boki_types.specs.declared.body.Body.{Body}
 use Rattle.boki_types.specs.declared.body.Body.TheVariants as b
 use Rattle.boki_types.specs.declared.operation.Op.TheVariants as o
@@ -15,11 +14,11 @@ use Rattle.boki_types.specs.declared.plan.Setup.{Setup}
 use Rattle.boki_types.specs.declared.program.Function.{Function}
 use Rattle.boki_model.specs.Live.{Live}
 use Rattle.boki_model.specs.Bodies.{step_of}
-use Rattle.boki_model.specs.Writes.{Store, Version, Raised, Write, write_at, version, versions_at, fence, logged_writes, version_writes, initial_writes, is_below, last_below, last}
+use Rattle.boki_model.specs.Writes.{Store, Version, Raised, Write, write_at, version, fence, logged_writes, version_writes, initial_writes, is_below, last_below, last}
 use Rattle.boki_machine.specs.Decided.{Point, point, asked_at, or_none, values_below, free_answer, and_answer, more, own_answer, transaction_behind, operated, stepped, advanced}
 use Rattle.exactly_once.specs.Sound.{Asks, AreNextWrites, frees_to, standing_at}
 use Rattle.exactly_once.specs.Steps.{is_step_of}
-use Rattle.exactly_once.specs.Invariant.{marks, marks_at, marks_by, AreFenced}
+use Rattle.exactly_once.specs.Invariant.{marks_at, marks_by, AreFenced}
 use Rattle.exactly_once.specs.Versions.{with_version}
 use Rattle.exactly_once.proofs.Maps.{same_key}
 use Rattle.exactly_once.proofs.Lasts.{last_skip, not_below_zero}
@@ -137,8 +136,8 @@ module _ (v : Version) (store : Store) where
       last_fenced key seq xs le =
           last_kept key seq 0 xs
           (λ e.
-              let same : seq ≤ fence v.key fences = subst (λ k. seq ≤ fence k fences) (same_key key v.key e) le in
-              not_below_zero v.cursor v.k seq (omega (arith, same, unfenced)))
+          let same : seq ≤ fence v.key fences = subst (λ k. seq ≤ fence k fences) (same_key key v.key e) le in
+          not_below_zero v.cursor v.k seq (omega (arith, same, unfenced)))
 
       values_fenced : (seq : ℕ) (keys : List (List ℕ)) (others : List Raised) (xs : List (Live Body)) → AreFenced fences (marks_at seq keys others) → values_below seq 0 grown xs keys ≡ values_below seq 0 store xs keys
       values_fenced seq [] others xs all = refl

@@ -1,5 +1,5 @@
 -- Shards: a record is appended, and a vector orders what every replica has.
-use Rattle.std.proofs.Common.{◌≡◌, ◌⊎◌, inl, inr, ⊎_elim, ℕ, zero, suc, ◌+◌, ◌≤◌, Bool, true, false, cond, List, [], ◌∷◌, ◌++◌, length, refl, sym, ap, ◌∙◌, subst, arith}
+use Rattle.std.proofs.Common.{◌⊎◌, inl, inr, ⊎_elim, ℕ, zero, suc, ◌+◌, ◌≤◌, List, [], ◌∷◌, ◌++◌, length, refl, sym, subst, arith}
 use Rattle.std.specs.Prelude.{take, drop, reverse, min, slice_index, slice_index_or, slice_set}
 use Rattle.std.specs.List.{AllByRecursion}
 use mathlib.Core.List.{reverse-cons}
@@ -7,10 +7,9 @@ use Rattle.boki_types.specs.declared.body.Body.{Body}
 use Rattle.boki_types.specs.declared.plan.Setup.{Setup}
 use Rattle.boki_types.specs.declared.program.Function.{Function}
 use Rattle.boki_model.specs.Live.{Entry}
-use Rattle.boki_model.specs.Order.{first_count, other_counts, between, added, last_vector, order, least_count, progress}
-use Rattle.boki_model.specs.OrderLaws.{AreAtMost, Grow, Have, add_to}
+use Rattle.boki_model.specs.Order.{first_count, other_counts, between, added, least_count, progress}
+use Rattle.boki_model.specs.OrderLaws.{AreAtMost, Have, add_to}
 use Rattle.exactly_once.specs.Invariant.{World, records, values, IsAsked, IsAmong, Holds}
-use Rattle.exactly_once.specs.MicroSteps.{orders}
 use Rattle.exactly_once.specs.Opening.{all_of}
 use Rattle.exactly_once.proofs.Each.{each_append, each_weaker}
 use Rattle.exactly_once.proofs.Orders.{orders_keep}
@@ -70,7 +69,7 @@ module _ {A : Type 0} where
   added_among [] old new = tt
   added_among (s ∷ ss) old new =
       let here = each_reverse (λ x. IsAmong x s) (between (first_count old) (first_count new) s)
-          (each_drop (λ x. IsAmong x s) (first_count old) (take (first_count new) s) (each_take (λ x. IsAmong x s) (first_count new) s (each_itself s))) in
+      (each_drop (λ x. IsAmong x s) (first_count old) (take (first_count new) s) (each_take (λ x. IsAmong x s) (first_count new) s (each_itself s))) in
       each_append (λ x. IsAmong x (s ++ all_of ss)) (added ss (other_counts old) (other_counts new)) (reverse (between (first_count old) (first_count new) s))
       (each_weaker (λ x. IsAmong x (all_of ss)) (λ x. IsAmong x (s ++ all_of ss)) (λ x is. among_right x s (all_of ss) is) (added ss (other_counts old) (other_counts new)) (added_among ss (other_counts old) (other_counts new)))
       (each_weaker (λ x. IsAmong x s) (λ x. IsAmong x (s ++ all_of ss)) (λ x is. among_left x s (all_of ss) is) (reverse (between (first_count old) (first_count new) s)) here)

@@ -1,9 +1,7 @@
 -- A version that is put in moves no invocation whose marked reads have their fences.
-use Rattle.std.proofs.Common.{◌≡◌, ◌⊎◌, inl, inr, ⊎_elim, ℕ, suc, ◌-◌, ◌<◌, ◌≤◌, Bool, true, false, cond, List, [], ◌∷◌, length, Option, Some, None, refl, sym, ap, ◌∙◌, subst, arith}
+use Rattle.std.proofs.Common.{◌≡◌, ℕ, suc, ◌-◌, Bool, true, false, cond, List, [], ◌∷◌, length, Option, Some, None, refl, sym, ap, ◌∙◌, subst, arith}
 use Rattle.std.specs.Prelude.{bytes_eq}
 use Rattle.lb_base.specs.declared.value.Value.{Value}
-use Rattle.lb_base.specs.declared.value.Mode.TheVariants.{R, W}
-use Rattle.lb_base.specs.declared.value.Outcome.{Outcome}
 use Rattle.boki_types.specs.declared.body.Body.{Body}
 use Rattle.boki_types.specs.declared.body.Body.TheVariants as b
 use Rattle.boki_types.specs.declared.operation.Op.TheVariants as o
@@ -11,21 +9,19 @@ use Rattle.boki_types.specs.declared.operation.Ask.{Ask}
 use Rattle.boki_types.specs.declared.operation.Ask.TheVariants as k
 use Rattle.boki_types.specs.declared.plan.Setup.{Setup}
 use Rattle.boki_types.specs.declared.program.Function.{Function}
-use Rattle.boki_model.specs.Live.{Live, upto}
+use Rattle.boki_model.specs.Live.{Live}
 use Rattle.boki_model.specs.Bodies.{step_of}
-use Rattle.boki_model.specs.Modes.{finish_of}
 use Rattle.boki_model.specs.Writes.{Store, Version, Raised}
 use Rattle.boki_machine.specs.Attempt.{Attempt}
 use Rattle.boki_machine.specs.Decided.{Point, point, stepped, advanced}
-use Rattle.exactly_once.specs.Sound.{Asks, MayBegin, MayWrite, MayCommit, Fits, AllFit}
+use Rattle.exactly_once.specs.Sound.{Asks, MayBegin, MayWrite, MayCommit, Fits}
 use Rattle.exactly_once.specs.Steps.{is_step_of}
-use Rattle.exactly_once.specs.Invariant.{World, records, values, marks, marks_by, AreFenced, FencedBehind, Logs, IsNext, Holds}
+use Rattle.exactly_once.specs.Invariant.{World, records, values, marks, AreFenced, FencedBehind, Logs, IsNext, Holds}
 use Rattle.exactly_once.specs.Versions.{with_version, next_version}
-use Rattle.exactly_once.proofs.Tails.{Tail, here, there, shorter}
+use Rattle.exactly_once.proofs.Tails.{Tail, shorter}
 use Rattle.exactly_once.proofs.Lives.{Under, live_under}
 use Rattle.exactly_once.proofs.Maps.{same_key, same_itself}
 use Rattle.exactly_once.proofs.Points.{stands, Does, does, apart, began, operates, ends, cursor_within}
-use Rattle.exactly_once.proofs.SamePlace.{marks_apart}
 use Rattle.exactly_once.proofs.Histories.{under_at, fit_tail}
 use Rattle.exactly_once.proofs.Writers.{IsWriter, logs_apart, is_its}
 use Rattle.exactly_once.proofs.LastCursor.{none_above, no_later, reads_below}
@@ -139,9 +135,11 @@ module _ (setup : Setup) (fs : List Function) (w : World) (holds : Holds setup f
   pub next_kept : (xs : List (Live Body)) (body : Body) → Tail xs now → IsNext setup fs old fences xs now body → IsNext setup fs new fences xs now body
   unfolding write_here
   next_kept xs (b.Init p) t next = begin_here p xs next
-  next_kept xs (b.Write p i place name kept) t next =
-      (write_here p xs i place name kept t next.2.fenced (unhit_logs p xs i (k.Op (o.Write name next.0.value)) t next.2) next.0,
-      next.1 ∙ sym (ap (λ (st : Point). st.place) (framed p xs)), logs_here p xs i (k.Op (o.Write name next.0.value)) t next.2)
+  next_kept xs (b.Write p i place name kept) t next = (
+    write_here p xs i place name kept t next.2.fenced (unhit_logs p xs i (k.Op (o.Write name next.0.value)) t next.2) next.0,
+    next.1 ∙ sym (ap (λ (st : Point). st.place) (framed p xs)),
+    logs_here p xs i (k.Op (o.Write name next.0.value)) t next.2,
+  )
   next_kept xs (b.Spawn p i ordinal name args) t next = (next.0, next.1, logs_here p xs i (k.Op (o.Spawn ordinal next.0 args)) t next.2)
   next_kept xs (b.Join p i ordinal) t next = (logs_here p xs i (k.Op (o.Join ordinal)) t next.0, next.1)
   next_kept xs (b.TxnCommit p i begin names writes) t next =

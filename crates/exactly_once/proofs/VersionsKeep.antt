@@ -1,7 +1,6 @@
 -- A version that is put in keeps the invariant.
 use Rattle.std.proofs.Common.{◌≡◌, ◌⊎◌, inl, inr, ⊎_elim, ℕ, suc, ◌+◌, ◌<◌, ◌≤◌, Bool, true, false, cond, eqb, ◌&&◌, List, [], ◌∷◌, length, Option, Some, None, refl, sym, ap, ◌∙◌, subst, arith}
 use Rattle.std.specs.Prelude.{bytes_eq, IsTrue}
-use Rattle.std.specs.List.{AllByRecursion}
 use Rattle.std.proofs.lemmas.Bool.{and_parts, eqb-true, eq-eqb, or_left, or_right}
 use Rattle.lb_base.specs.declared.value.Value.{Value}
 use Rattle.lb_base.specs.declared.value.Mode.{Mode}
@@ -20,10 +19,10 @@ use Rattle.boki_model.specs.Bodies.{step_of}
 use Rattle.boki_model.specs.Writes.{Store, Version, Stored, Raised, version, fence}
 use Rattle.boki_machine.specs.Attempt.{Attempt}
 use Rattle.boki_machine.specs.Decided.{Point, point, more, asked_at}
-use Rattle.exactly_once.specs.Sound.{Fits, AreNextWrites, MayStand, StandAt, standing_at, AllFit, IsSound}
+use Rattle.exactly_once.specs.Sound.{AreNextWrites, MayStand, StandAt, standing_at, AllFit}
 use Rattle.exactly_once.specs.Steps.{at_place}
-use Rattle.exactly_once.specs.Invariant.{World, records, values, marks, AreFenced, IsNext, IsStep, IsOfKind, IsAsked, IsOwed, FencedBehind, AllFenced, KnowsStored, KnowsLate, IsFresh, Follows, IsFollowing, Holds}
-use Rattle.exactly_once.specs.Versions.{with_version, puts, next_version, MayPut, VersionsKeep}
+use Rattle.exactly_once.specs.Invariant.{World, records, values, marks, AreFenced, IsStep, IsOfKind, IsAsked, IsOwed, FencedBehind, AllFenced, KnowsStored, KnowsLate, IsFresh, Follows, IsFollowing, Holds}
+use Rattle.exactly_once.specs.Versions.{puts, next_version, VersionsKeep}
 use Rattle.exactly_once.proofs.Tails.{Tail, here, there, shorter}
 use Rattle.exactly_once.proofs.Each.{each_weaker}
 use Rattle.exactly_once.proofs.Lives.{live_under}
@@ -31,7 +30,7 @@ use Rattle.exactly_once.proofs.Maps.{same_key, same_itself}
 use Rattle.exactly_once.proofs.Points.{stands, Does, does, apart, began, operates, ends}
 use Rattle.exactly_once.proofs.Orders.{among_each, stand_none}
 use Rattle.exactly_once.proofs.Histories.{upto_tail, one_record, fit_tail}
-use Rattle.exactly_once.proofs.Writers.{IsWriter, its, its_mode, behind_it, behind_is, stood, on_tail, on_seq, standing, next_writes, few_decided, as_many, asks_more, is_its, same_more_in_W}
+use Rattle.exactly_once.proofs.Writers.{IsWriter, its_mode, behind_is, stood, on_tail, on_seq, next_writes, few_decided, as_many, asks_more, is_its, same_more_in_W}
 use Rattle.exactly_once.proofs.LastCursor.{reads_below}
 use Rattle.exactly_once.proofs.Puts.{IsSafe, more_kept, writes_kept}
 use Rattle.exactly_once.proofs.Unmoved.{old, new, point_kept, framed, fits_kept, logs_here, next_kept}
@@ -126,10 +125,11 @@ module _ (setup : Setup) (fs : List Function) (w : World) (holds : Holds setup f
       let mode = its_mode setup fs Old Fences n Now under holds.sound a key value writer in
       let safe : (m : ℕ) → m ≤ length Standing → IsSafe V Old Its m =
       λ m le. record { low = λ r. let no_way : W ≡ R = sym mode ∙ r in cc; few = λ r e. omega (arith, le, count) } in
-      let all : AreNextWrites fs New Behind a.path Its (V ∷ Standing) =
-      (ap suc (sym count),
-      ap (asked_at fs a.path Its) (more_kept V Old fs Behind a.path Its (length Standing) (safe (length Standing) (omega arith))) ∙ asks_more setup fs Old Fences n Now under holds.sound a key value writer,
-      writes_kept V Old fs Behind a.path Its Standing safe (next_writes setup fs Old Fences n Now under holds.sound a key value writer)) in
+      let all : AreNextWrites fs New Behind a.path Its (V ∷ Standing) = (
+        ap suc (sym count),
+        ap (asked_at fs a.path Its) (more_kept V Old fs Behind a.path Its (length Standing) (safe (length Standing) (omega arith))) ∙ asks_more setup fs Old Fences n Now under holds.sound a key value writer,
+        writes_kept V Old fs Behind a.path Its Standing safe (next_writes setup fs Old Fences n Now under holds.sound a key value writer),
+      ) in
       subst (λ r. MayStand fs New Behind a.path Its r Its.mode (V ∷ Standing)) (sym writer.follows.unended)
       (subst (λ m. MayStand fs New Behind a.path Its None m (V ∷ Standing)) (sym mode) all)
 
@@ -254,10 +254,11 @@ module _ (setup : Setup) (fs : List Function) (w : World) (holds : Holds setup f
   put_keeps = record {
     sound = record {
       fit = all_kept Now here holds.fenced holds.sound.fit;
-      placed =
-          (subst (λ c. IsTrue (is_live c Now)) (on_seq setup fs Old Fences n Now (live_under w.log) holds.sound a key value writer)
-          (let on = stood setup fs Old Fences n Now (live_under w.log) holds.sound a key value writer in tail_live on.on on.behind Now (on_tail setup fs Old Fences n Now (live_under w.log) holds.sound a key value writer)),
-          holds.sound.placed);
+      placed = (
+        subst (λ c. IsTrue (is_live c Now)) (on_seq setup fs Old Fences n Now (live_under w.log) holds.sound a key value writer)
+            (let on = stood setup fs Old Fences n Now (live_under w.log) holds.sound a key value writer in tail_live on.on on.behind Now (on_tail setup fs Old Fences n Now (live_under w.log) holds.sound a key value writer)),
+        holds.sound.placed,
+      );
     };
     fenced = fenced_kept Now here holds.fenced;
     sent = each_weaker (IsAsked setup fs Old Fences n Now) (IsAsked setup fs New Fences n Now) asked_kept w.sent holds.sent;

@@ -1,14 +1,12 @@
 -- An attempt that may put in a version: the versions at its cursor are those that it has counted, and no operation of its
 -- invocation is logged there.
-use Rattle.std.proofs.Common.{◌≡◌, ◌⊎◌, inl, inr, ⊎_elim, ℕ, zero, suc, ◌+◌, ◌<◌, ◌≤◌, ◌-◌, Bool, true, false, cond, eqb, ltb, ◌&&◌, List, [], ◌∷◌, length, Option, Some, None, refl, sym, ap, ◌∙◌, subst, arith}
+use Rattle.std.proofs.Common.{◌≡◌, ℕ, zero, suc, ◌+◌, ◌<◌, ◌≤◌, ◌-◌, Bool, true, false, cond, eqb, ltb, ◌&&◌, List, [], ◌∷◌, length, Option, Some, None, refl, sym, ap, ◌∙◌, subst, arith}
 use Rattle.std.specs.Prelude.{bytes_eq, is_some}
 use Rattle.std.specs.List.{AllByRecursion}
 use Rattle.std.proofs.lemmas.Bool.{and_parts, eqb-true, ltb-true, ltb-false}
 use Rattle.std.proofs.lemmas.Bool.Decides.{nat_tests}
 use Rattle.lb_base.specs.declared.value.Value.{Value}
-use Rattle.lb_base.specs.declared.value.Mode.{Mode}
-use Rattle.lb_base.specs.declared.value.Mode.TheVariants.{R, W, T}
-use Rattle.lb_base.specs.declared.value.Outcome.{Outcome}
+use Rattle.lb_base.specs.declared.value.Mode.TheVariants.{W}
 use Rattle.boki_types.specs.declared.body.Body.{Body}
 use Rattle.boki_types.specs.declared.operation.Op.TheVariants as o
 use Rattle.boki_types.specs.declared.operation.Ask.{Ask}
@@ -23,15 +21,15 @@ use Rattle.boki_model.specs.Script.{asked}
 use Rattle.boki_model.specs.Writes.{Store, Version, Raised, version, versions_at, fence}
 use Rattle.boki_machine.specs.Attempt.{Attempt}
 use Rattle.boki_machine.specs.Step.{asked_by}
-use Rattle.boki_machine.specs.Decided.{Point, point, more, asked_at, free_answer, and_answer}
+use Rattle.boki_machine.specs.Decided.{Point, more, asked_at, free_answer, and_answer}
 use Rattle.exactly_once.specs.Sound.{AllFit, IsSound, MayStand, StandAt, AreNextWrites, standing_at, frees_to}
 use Rattle.exactly_once.specs.Invariant.{MayLog, Logs, Follows, Counts}
 use Rattle.exactly_once.proofs.Tails.{Tail, here, there, longer}
 use Rattle.exactly_once.proofs.Lives.{Under}
 use Rattle.exactly_once.proofs.Each.{each_weaker}
-use Rattle.exactly_once.proofs.Positions.{Numbered, numbered_within, numbered_once, at_of, At, found_version}
+use Rattle.exactly_once.proofs.Positions.{Numbered, numbered_within, numbered_once, at_of, found_version}
 use Rattle.exactly_once.proofs.FreeTurns.{stand_numbered}
-use Rattle.exactly_once.proofs.Frees.{on, next_decided}
+use Rattle.exactly_once.proofs.Frees.{next_decided}
 use Rattle.exactly_once.proofs.Points.{stands}
 use Rattle.exactly_once.proofs.Histories.{upto_tail, one_record, upto_at, fit_tail, StandsOn, stands_on}
 

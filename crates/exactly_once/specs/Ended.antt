@@ -1,6 +1,6 @@
 -- Ended invocations are left alone: where an invocation has its Finish, what its attempts still do changes nothing that any
 -- other depends on, and no step record of it becomes live.
-use Rattle.std.specs.Prelude.{◌≡◌, ℕ, false, List, [], ◌∷◌, Some, None}
+use Rattle.std.specs.Prelude.{◌≡◌, ℕ, false, List, ◌∷◌, Some, None}
 use Rattle.lb_base.specs.declared.value.Value.{Value}
 use Rattle.boki_types.specs.declared.body.Body.{Body}
 use Rattle.boki_types.specs.declared.body.Body.TheVariants as b
@@ -30,7 +30,7 @@ pub record HoldsValue (path : List ℕ) (records : List (Live Body)) (place : �
 -- The named values stay, but that a value of the invocation may be put in under a name that is new, where the live write of
 -- that name has the same value in its record.
 pub data NamesStay (path : List ℕ) (records : List (Live Body)) (old new : List Stored) : Type 0 where
-  same : new ≡ old → NamesStay path records old new
+  unchanged : new ≡ old → NamesStay path records old new
   one_more : (s : Stored) → new ≡ s ∷ old → value_of s.name old ≡ None → s.name.path ≡ path → HoldsValue path records s.name.place s.value → NamesStay path records old new
 
 -- The store stays, apart from that: each version, the fence of each key, and the floor. The list of what was raised may grow.

@@ -3,6 +3,7 @@
 //! others are the steps to it.
 #![tactic(auto)]
 
+ghost use Rattle.exactly_once.specs.Ended.{EndedAreLeft};
 ghost use Rattle.exactly_once.specs.Events.{QuietEventsKeep};
 ghost use Rattle.exactly_once.specs.Exact.{EventsKeep, EventsAreExact, ExactlyOnce};
 ghost use Rattle.exactly_once.specs.Exclusion.{ModesExclude, FloorsPass};
@@ -106,4 +107,11 @@ pub fn exactly_once()
 /// Duplicates agree: whatever happened, the answers of each attempt are the first ones that its invocation has decided.
 pub fn duplicates_agree()
     ensures { AfterEvents DuplicatesAgree }
+{}
+
+/// Ended invocations are left alone: once an invocation has its Finish, no step of an attempt of it, and no store call whose
+/// answer is lost, changes a version, the fence of a key, the floor or a named value, but for a value that stands in its record
+/// too; no step record of it that was sent becomes live; and only such attempts are told that the store has dropped something.
+pub fn ended_are_left()
+    ensures { AfterEvents EndedAreLeft }
 {}
