@@ -159,6 +159,14 @@ module _ (setup : Setup) (fs : List Function) (store : Store) (p : List ℕ) (c 
           at false f e = cc
       is_there n _ x e = cc
 
+      -- the next number has no version
+      pub none_next : (key : List ℕ) → version key c (suc (versions_at c store.versions)) store.versions ≡ None
+      none_next key = at (version key c (suc (versions_at c store.versions)) store.versions) refl
+        where
+          at : (o : Option Value) → version key c (suc (versions_at c store.versions)) store.versions ≡ o → o ≡ None
+          at None e = refl
+          at (Some v) e = absurd (let le = version_within key c (suc (versions_at c store.versions)) (versions_at c store.versions) store.versions within (ap is_some e) in let no_way : ⊥ = omega (arith, le) in no_way)
+
       pub frees_most : (n : ℕ) → length (on fs store xs p st n) ≡ n + length st.answers → n ≤ versions_at c store.versions
       frees_most zero long = omega arith
       frees_most (suc n) long =

@@ -8,7 +8,9 @@ use Rattle.exactly_once.specs.Opening.{world_of}
 use Rattle.exactly_once.specs.Laws.{AfterEvents, DuplicatesAgree, attempts_of}
 use Rattle.exactly_once.proofs.Exact.{run_holds, opens}
 use Rattle.exactly_once.specs.Ended.{EndedAreLeft}
+use Rattle.exactly_once.specs.Economy.{EndedAreEconomic}
 use Rattle.exactly_once.proofs.Duplicates.{all_agree}
+use Rattle.exactly_once.proofs.Economy.{economic}
 use Rattle.exactly_once.proofs.Ended.{dead, step_leaves, miss_leaves, gone_only}
 
 module _ (keep : EventsKeep) where
@@ -30,3 +32,6 @@ module _ (keep : EventsKeep) where
         dead = dead setup fs w good.holds;
         gone = gone_only setup fs w good.holds;
       })
+
+  pub ended_are_economic : AfterEvents EndedAreEconomic
+  ended_are_economic = after_events EndedAreEconomic (λ setup fs m good path ended. economic setup fs (world_of m) good.holds path ended)

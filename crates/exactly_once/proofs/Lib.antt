@@ -58,4 +58,6 @@ pub mod Misses
 pub mod Duplicates
 pub mod Effects
 pub mod Ended
+pub mod Counted
+pub mod Economy
 pub mod Laws

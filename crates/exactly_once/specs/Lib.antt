@@ -14,3 +14,4 @@ pub mod Moves
 pub mod Exact
 pub mod Laws
 pub mod Ended
+pub mod Economy

@@ -3,6 +3,7 @@
 //! others are the steps to it.
 #![tactic(auto)]
 
+ghost use Rattle.exactly_once.specs.Economy.{EndedAreEconomic};
 ghost use Rattle.exactly_once.specs.Ended.{EndedAreLeft};
 ghost use Rattle.exactly_once.specs.Events.{QuietEventsKeep};
 ghost use Rattle.exactly_once.specs.Exact.{EventsKeep, EventsAreExact, ExactlyOnce};
@@ -114,4 +115,10 @@ pub fn duplicates_agree()
 /// too; no step record of it that was sent becomes live; and only such attempts are told that the store has dropped something.
 pub fn ended_are_left()
     ensures { AfterEvents EndedAreLeft }
+{}
+
+/// Economy of the log: an invocation that has ended has two step records, and one for each operation that isn't free. In mode T
+/// none is free, in mode R reads of objects are, and in mode W writes are, but for those that were late.
+pub fn ended_are_economic()
+    ensures { AfterEvents EndedAreEconomic }
 {}
