@@ -23,7 +23,8 @@ use Rattle.exactly_once.specs.Invariant.{MayLog, Logs}
 use Rattle.exactly_once.proofs.Tails.{Tail, here, there}
 use Rattle.exactly_once.proofs.Each.{each_weaker}
 use Rattle.exactly_once.proofs.Lives.{Under}
-use Rattle.exactly_once.proofs.Positions.{Numbered, numbered_within, numbered_once, At, at_of, found_version}
+use Rattle.exactly_once.proofs.Positions.{numbered_within, numbered_once, At, at_of, found_version}
+use Rattle.exactly_once.specs.Economy.{AreNumbered}
 use Rattle.exactly_once.proofs.Points.{stands, Does, does, apart, began, operates, ends, cursor_within}
 use Rattle.exactly_once.proofs.Frees.{on, IsNext, next_decided, long_reaches, is_read, IsRead, reads, reads_all}
 use Rattle.exactly_once.proofs.FreeTurns.{stand_numbered}
@@ -139,7 +140,7 @@ module _ (setup : Setup) (fs : List Function) (store : Store) (p : List ℕ) (c 
         let three : MayStand fs store xs p st st.result st.mode (standing_at c store.versions) = subst (λ c. MayStand fs store xs p st st.result st.mode (standing_at c store.versions)) h.seq_is two in
         subst (λ r. MayStand fs store xs p st r st.mode (standing_at c store.versions)) unended three
 
-    numbered_here : Numbered (standing_at c store.versions)
+    numbered_here : AreNumbered (standing_at c store.versions)
     numbered_here = stand_numbered fs store xs p st None st.mode (standing_at c store.versions) stand_here
 
     module _ (mode : st.mode ≡ W) where

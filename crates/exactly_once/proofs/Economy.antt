@@ -21,7 +21,7 @@ use Rattle.exactly_once.specs.Sound.{Fits, AllFit, MayStand, StandAt, standing_a
 use Rattle.exactly_once.specs.Exclusion.{IsEnded}
 use Rattle.exactly_once.specs.Steps.{is_step_of, steps_of}
 use Rattle.exactly_once.specs.Invariant.{World, records, values, MayLog, Holds}
-use Rattle.exactly_once.specs.Economy.{is_any, is_write, picked, how_many, is_write_of, writes_in, versions_in, WasLate, WereLate, IsEconomic}
+use Rattle.exactly_once.specs.Economy.{AreNumbered, AllNumbered, is_any, is_write, picked, how_many, is_write_of, writes_in, versions_in, WasLate, WereLate, IsEconomic}
 use Rattle.exactly_once.proofs.Tails.{Tail, here, there, shorter, longer}
 use Rattle.exactly_once.proofs.Lives.{live_under}
 use Rattle.exactly_once.proofs.Maps.{same_itself, same_key}
@@ -29,6 +29,7 @@ use Rattle.exactly_once.proofs.Points.{stands, Does, does, apart, began, operate
 use Rattle.exactly_once.proofs.SamePlace.{place_is}
 use Rattle.exactly_once.proofs.Frees.{on, long_reaches}
 use Rattle.exactly_once.proofs.Histories.{fit_tail, under_at, stands_on}
+use Rattle.exactly_once.proofs.FreeTurns.{stand_numbered}
 use Rattle.exactly_once.proofs.Cursors.{none_next}
 use Rattle.exactly_once.proofs.Counted.{no_read, no_write, any_more, reads_more, others_more, writes_more, none_more, IsOperation, is_operation, may, asks_at}
 
@@ -275,6 +276,16 @@ module _ (setup : Setup) (fs : List Function) (w : World) (holds : Holds setup f
   were_late [] t mode = tt
   were_late (x ∷ xs) t mode = (was_late x xs t (mode xs (shorter t)) x.holds refl, were_late xs (shorter t) mode)
 
+  -- The versions at a record are numbered.
+
+  all_numbered : (xs : List (Live Body)) → AllFit setup fs store xs → AllNumbered store.versions xs
+  all_numbered [] fit = tt
+  all_numbered (x ∷ xs) fit = (at (step_of x.holds) (standing_at x.seq store.versions) fit.1, all_numbered xs fit.2)
+    where
+      at : (s : Option (List ℕ × ℕ)) (vs : List Version) → StandAt setup fs store (x ∷ xs) s vs → AreNumbered vs
+      at None vs stand = subst AreNumbered (sym stand) tt
+      at (Some s) vs stand = let it = point setup fs store s.0 (x ∷ xs) in stand_numbered fs store (x ∷ xs) s.0 it it.result it.mode vs stand
+
   -- At its end.
 
   module _ (ended : IsEnded p now) where
@@ -321,5 +332,6 @@ module _ (setup : Setup) (fs : List Function) (w : World) (holds : Holds setup f
           in_R = λ m. let h = c.in_R m in omega (arith, h, closing);
           in_W = λ m. let h = c.in_W m in omega (arith, h, closing);
           written = λ m. let h = c.written m in let none = none_at_end in omega (arith, h, none);
+          numbered = all_numbered now holds.sound.fit;
           late = λ m. were_late now here (λ ys t begun. sym (mode_stays ys now t holds.sound.fit begun).0 ∙ m);
         }

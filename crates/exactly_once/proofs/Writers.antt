@@ -27,7 +27,8 @@ use Rattle.exactly_once.specs.Invariant.{MayLog, Logs, Follows, Counts}
 use Rattle.exactly_once.proofs.Tails.{Tail, here, there, longer}
 use Rattle.exactly_once.proofs.Lives.{Under}
 use Rattle.exactly_once.proofs.Each.{each_weaker}
-use Rattle.exactly_once.proofs.Positions.{Numbered, numbered_within, numbered_once, at_of, found_version}
+use Rattle.exactly_once.proofs.Positions.{numbered_within, numbered_once, at_of, found_version}
+use Rattle.exactly_once.specs.Economy.{AreNumbered}
 use Rattle.exactly_once.proofs.FreeTurns.{stand_numbered}
 use Rattle.exactly_once.proofs.Frees.{next_decided}
 use Rattle.exactly_once.proofs.Points.{stands}
@@ -153,7 +154,7 @@ module _ (setup : Setup) (fs : List Function) (store : Store) (fences : List Rai
       subst (λ m. MayStand fs store behind_it a.path its None m standing) its_mode
       (subst (λ r. MayStand fs store behind_it a.path its r its.mode standing) F.unended stand_at)
 
-  numbered : Numbered standing
+  numbered : AreNumbered standing
   numbered = stand_numbered fs store behind_it a.path its its.result its.mode standing stand_at
 
   counted : a.k ≡ F.free

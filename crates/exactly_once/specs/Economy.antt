@@ -16,6 +16,7 @@ use Rattle.boki_model.specs.Writes.{Store, Version, Raised, fence, version, vers
 use Rattle.boki_machine.specs.Decided.{Point, point, asked_at}
 use Rattle.boki_machine.specs.Machine.{Machine, live_log}
 use Rattle.exactly_once.specs.Exclusion.{IsEnded}
+use Rattle.exactly_once.specs.Sound.{standing_at}
 use Rattle.exactly_once.specs.Steps.{is_step_of, steps_of}
 use Rattle.exactly_once.specs.Invariant.{values}
 
@@ -57,6 +58,15 @@ versions_in path versions [] = 0
 versions_in path versions (x ∷ xs) =
     cond (is_step_of path (step_of x.holds)) (versions_at x.seq versions + versions_in path versions xs) (versions_in path versions xs)
 
+-- the versions that stand at one record, the newest first, are numbered from 1
+abbrev pub AreNumbered : List Version → Type 0
+AreNumbered [] = Unit {0}
+AreNumbered (v ∷ vs) = (v.k ≡ suc (length vs)) × AreNumbered vs
+
+abbrev pub AllNumbered : List Version → List (Live Body) → Type 0
+AllNumbered versions [] = Unit {0}
+AllNumbered versions (x ∷ xs) = AreNumbered (standing_at x.seq versions) × AllNumbered versions xs
+
 -- A write of the invocation that comes behind these records was late: the version that it would have is absent, which is the
 -- next one at the invocation's cursor, and the key's fence is above the cursor.
 abbrev pub WasLate : Setup → List Function → Store → List Raised → List ℕ → List (Live Body) → Body → Type 0
@@ -78,6 +88,7 @@ pub record IsEconomic (setup : Setup) (fs : List Function) (store : Store) (fenc
   pub in_W : st.mode ≡ W → length (steps_of path records) ≡ 2 + (how_many (λ ask. not (is_write ask)) fs path st st.answers + writes_in path records)
   -- in mode W each of its writes is a version or a live write, and each live write was late
   pub written : st.mode ≡ W → how_many is_write fs path st st.answers ≡ writes_in path records + versions_in path store.versions records
+  pub numbered : AllNumbered store.versions records
   pub late : st.mode ≡ W → WereLate setup fs store fences path records
 
 abbrev pub EndedAreEconomic : Setup → List Function → Machine → Type 0
