@@ -284,7 +284,7 @@ module _ (setup : Setup) (fs : List Function) (w : World) (holds : Holds setup f
     where
       at : (s : Option (List ℕ × ℕ)) (vs : List Version) → StandAt setup fs store (x ∷ xs) s vs → AreNumbered vs
       at None vs stand = subst AreNumbered (sym stand) tt
-      at (Some s) vs stand = let it = point setup fs store s.0 (x ∷ xs) in stand_numbered fs store (x ∷ xs) s.0 it it.result it.mode vs stand
+      at (Some s) vs stand = let it = stands setup fs store s.0 (x ∷ xs) in stand_numbered fs store (x ∷ xs) s.0 it it.result it.mode vs stand
 
   -- At its end.
 
