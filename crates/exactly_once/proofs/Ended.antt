@@ -54,14 +54,14 @@ use Rattle.exactly_once.proofs.Effects.{keys_of, is_gone, Effect, leaves, stops,
 path_is : (s t : List ℕ × ℕ) → Some s ≡ Some t → s.0 ≡ t.0
 path_is s t e = let same : s ≡ t = cc in ap (λ (s : List ℕ × ℕ). s.0) same
 
-tail_among : {A : Type 0} (x : A) (xs ys : List A) → Tail (x ∷ xs) ys → IsAmong x ys
+pub tail_among : {A : Type 0} (x : A) (xs ys : List A) → Tail (x ∷ xs) ys → IsAmong x ys
 tail_among x xs ys here = inl refl
 tail_among x xs (y ∷ ys) (there t) = inr (tail_among x xs ys t)
 
 -- The marked reads of an invocation that has ended have their fences.
 
 module _ (setup : Setup) (fs : List Function) (store : Store) (fences : List Raised) (p : List ℕ) where
-  not_over : (xs : List (Live Body)) → AllFit setup fs store xs → IsEnded p xs → (stands setup fs store p xs).result ≡ None → ⊥
+  pub not_over : (xs : List (Live Body)) → AllFit setup fs store xs → IsEnded p xs → (stands setup fs store p xs).result ≡ None → ⊥
   not_over xs fit ended unended = let no_way : false ≡ true = ap is_some (sym unended ∙ result_is setup fs store xs p fit) ∙ ended in cc
 
   pub ended_marks : (xs : List (Live Body)) → AllFit setup fs store xs → AllFenced store fences xs → IsEnded p xs → AreFenced fences (marks p xs)
@@ -119,7 +119,7 @@ module _ (fences : List Raised) where
 
 -- The next step record at the place of an attempt that asks a write is of that write.
 
-record IsWrite (store : Store) (body : Body) (path : List ℕ) (at : ℕ) (value : Value) : Type 0 where
+pub record IsWrite (store : Store) (body : Body) (path : List ℕ) (at : ℕ) (value : Value) : Type 0 where
   pub index : ℕ
   pub key : List ℕ
   pub here_is : Option Value
@@ -195,6 +195,27 @@ module _ (setup : Setup) (fs : List Function) (w : World) (holds : Holds setup f
       at : (t : Bool) → meets r.condition now ≡ t → t ≡ false
       at false e = refl
       at true e = absurd (never e)
+
+  -- Where an ended invocation asked a write that may be logged, behind the records up to c, its next step record is that write.
+  module _ (p : List ℕ) (ended : IsEnded p now) (c i : ℕ) (key : List ℕ) (value : Value) (logs : Logs fs store w.store.fences (upto c now) p (stands setup fs store p (upto c now)) i (k.Op (o.Write key value))) where
+    abbrev there_then : Point
+    there_then = stands setup fs store p (upto c now)
+
+    pub next_step : FirstAbove setup fs store p c now now
+    next_step =
+        ⊎_elim (λ same. absurd (not_over setup fs store w.store.fences p now holds.sound.fit ended (ap (λ (st : Point). st.result) (same_point setup fs store p c now same) ∙ logs.asks.reaches.unended)))
+        (λ n. n) (first_above setup fs store p c now now refl)
+
+    pub its_record : IsWrite store next_step.step.holds p there_then.place value
+    its_record =
+        let n = next_step in
+        let from = origin setup fs w holds n.step n.rest p n.index n.tail n.step_is in
+        let there_is : point setup fs store p (upto from.c now) ≡ there_then = from.same ∙ n.same in
+        let places : there_then.place ≡ (stands setup fs store p (upto from.c now)).place = ap (λ (st : Point). st.place) (sym there_is) in
+        let one : (j : ℕ) (ask : Ask) → Logs fs store w.store.fences (upto from.c now) p (stands setup fs store p (upto from.c now)) j ask → ask ≡ k.Op (o.Write key value) =
+        λ j ask others. sym (one_ask setup fs store w.store.fences (length w.log) now (live_under w.log) holds.sound.fit p c from.c i j (k.Op (o.Write key value)) ask places logs others) in
+        subst (λ place. IsWrite store n.step.holds p place value) (sym places)
+        (write_of setup fs store w.store.fences (upto from.c now) now p key value (ap (λ (st : Point). st.begun) there_is ∙ logs.asks.reaches.begun) one n.step.holds n.index n.step_is from.next)
 
   -- An attempt that has adopted its Init.
 
@@ -273,35 +294,27 @@ module _ (setup : Setup) (fs : List Function) (w : World) (holds : Holds setup f
         its_logs : Logs fs store w.store.fences here_now t.path (stands setup fs store t.path here_now) (next_index t.answers) (k.Op (o.Write key value))
         its_logs = sends.logs_write setup fs w holds t among path f key value asked late
 
-        next_step : FirstAbove setup fs store t.path t.cursor now now
-        next_step =
-            ⊎_elim (λ same. absurd (not_over setup fs store w.store.fences t.path now holds.sound.fit ended (ap (λ (st : Point). st.result) (same_point setup fs store t.path t.cursor now same) ∙ f.unended)))
-            (λ n. n) (first_above setup fs store t.path t.cursor now now refl)
-
-        its_record : IsWrite store next_step.step.holds t.path t.place value
-        its_record =
-            let n = next_step in
-            let from = origin setup fs w holds n.step n.rest t.path n.index n.tail n.step_is in
-            let there_is : point setup fs store t.path (upto from.c now) ≡ stands setup fs store t.path here_now = from.same ∙ n.same in
-            let places : (stands setup fs store t.path (upto t.cursor now)).place ≡ (stands setup fs store t.path (upto from.c now)).place = ap (λ (st : Point). st.place) (sym there_is) in
-            let one : (j : ℕ) (ask : Ask) → Logs fs store w.store.fences (upto from.c now) t.path (stands setup fs store t.path (upto from.c now)) j ask → ask ≡ k.Op (o.Write key value) =
-            λ j ask logs. sym (one_ask setup fs store w.store.fences (length w.log) now (live_under w.log) holds.sound.fit t.path t.cursor from.c (next_index t.answers) j (k.Op (o.Write key value)) ask places its_logs logs) in
-            subst (λ place. IsWrite store n.step.holds t.path place value) (sym places ∙ f.place)
-            (write_of setup fs store w.store.fences (upto from.c now) now t.path key value (ap (λ (st : Point). st.begun) there_is ∙ f.begun) one n.step.holds n.index n.step_is from.next)
+        written : IsWrite store (next_step t.path ended t.cursor (next_index t.answers) key value its_logs).step.holds t.path t.place value
+        written =
+            subst (λ place. IsWrite store (next_step t.path ended t.cursor (next_index t.answers) key value its_logs).step.holds t.path place value) f.place
+            (its_record t.path ended t.cursor (next_index t.answers) key value its_logs)
 
         holds_value : value_of (name_for t) w.store.named ≡ None → HoldsValue t.path now t.place value
-        holds_value new = at its_record.here_is its_record.is_write its_record.kept
+        holds_value new = at written.here_is written.is_write written.kept
           where
-            at : (o : Option Value) → next_step.step.holds ≡ b.Write t.path its_record.index t.place its_record.key o → here_or_named o (name_for t) w.store.named ≡ Some value → HoldsValue t.path now t.place value
+            next : FirstAbove setup fs store t.path t.cursor now now
+            next = next_step t.path ended t.cursor (next_index t.answers) key value its_logs
+
+            at : (o : Option Value) → next.step.holds ≡ b.Write t.path written.index t.place written.key o → here_or_named o (name_for t) w.store.named ≡ Some value → HoldsValue t.path now t.place value
             at None is kept = absurd (let no_way : None ≡ Some value = sym new ∙ kept in let h : ⊥ = cc in h)
             at (Some v) is kept =
                 let same : v ≡ value = cc in
                 record {
-                  x = next_step.step;
-                  among = tail_among next_step.step next_step.rest now next_step.tail;
-                  index = its_record.index;
-                  key = its_record.key;
-                  is_write = is ∙ ap (λ v. b.Write t.path its_record.index t.place its_record.key (Some v)) same;
+                  x = next.step;
+                  among = tail_among next.step next.rest now next.tail;
+                  index = written.index;
+                  key = written.key;
+                  is_write = is ∙ ap (λ v. b.Write t.path written.index t.place written.key (Some v)) same;
                 }
 
         names_stay : NamesStay t.path now w.store.named (name_if_new (name_for t) value w.store.named)

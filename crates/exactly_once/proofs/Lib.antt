@@ -60,4 +60,6 @@ pub mod Effects
 pub mod Ended
 pub mod Counted
 pub mod Economy
+pub mod Once
+pub mod Held
 pub mod Laws

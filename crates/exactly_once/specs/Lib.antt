@@ -15,3 +15,4 @@ pub mod Exact
 pub mod Laws
 pub mod Ended
 pub mod Economy
+pub mod Held

@@ -8,6 +8,7 @@ ghost use Rattle.exactly_once.specs.Ended.{EndedAreLeft};
 ghost use Rattle.exactly_once.specs.Events.{QuietEventsKeep};
 ghost use Rattle.exactly_once.specs.Exact.{EventsKeep, EventsAreExact, ExactlyOnce};
 ghost use Rattle.exactly_once.specs.Exclusion.{ModesExclude, FloorsPass};
+ghost use Rattle.exactly_once.specs.Held.{HeldOnce};
 ghost use Rattle.exactly_once.specs.MicroSteps.{MicroStepsKeep};
 ghost use Rattle.exactly_once.specs.Laws.{AfterEvents, DuplicatesAgree};
 ghost use Rattle.exactly_once.specs.Moves.{MissesKeep, MovesKeep};
@@ -121,4 +122,10 @@ pub fn ended_are_left()
 /// none is free, in mode R reads of objects are, and in mode W writes are, but for those that were late.
 pub fn ended_are_economic()
     ensures { AfterEvents EndedAreEconomic }
+{}
+
+/// What the store holds: each key, version and name once, no version below the floor, and no named value whose write lies below
+/// the floor; so of an invocation with its Finish below the floor no named value at all.
+pub fn held_once()
+    ensures { AfterEvents HeldOnce }
 {}
