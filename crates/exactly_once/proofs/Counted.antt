@@ -30,14 +30,15 @@ use Rattle.exactly_once.proofs.SamePlace.{same_more, cursor_upto}
 use Rattle.exactly_once.proofs.Frees.{on, IsNext, next_decided, IsRead, reads, reads_all}
 use Rattle.exactly_once.proofs.Frees.{is_read as is_read_free}
 use Rattle.exactly_once.proofs.Histories.{under_at, upto_at, fit_tail}
+use Rattle.exactly_once.proofs.OpenTransactions.{same_step}
 use Rattle.exactly_once.proofs.Origins.{IsLogged, origin}
-use Rattle.exactly_once.proofs.Writers.{is_there}
+use Rattle.exactly_once.proofs.Cursors.{is_there}
 
-abbrev pub no_read : Ask → Bool
-no_read ask = not (is_read ask)
+abbrev pub is_no_read : Ask → Bool
+is_no_read ask = not (is_read ask)
 
-abbrev pub no_write : Ask → Bool
-no_write ask = not (is_write ask)
+abbrev pub is_no_write : Ask → Bool
+is_no_write ask = not (is_write ask)
 
 module _ (fs : List Function) (store : Store) (xs : List (Live Body)) (p : List ℕ) (st : Point) where
   abbrev pub many : (Ask → Bool) → List Answer → ℕ
@@ -98,11 +99,11 @@ module _ (fs : List Function) (store : Store) (xs : List (Live Body)) (p : List 
     pub any_more : many is_any (on fs store xs p st n) ≡ n + many is_any st.answers
     any_more = more_all is_any any_kind n long
 
-    pub reads_more : st.mode ≡ R → many no_read (on fs store xs p st n) ≡ many no_read st.answers
-    reads_more mode = more_none no_read (λ m next. read_kind m next no_read 0 (λ key. refl) (λ keys. refl) mode) n long
+    pub reads_more : st.mode ≡ R → many is_no_read (on fs store xs p st n) ≡ many is_no_read st.answers
+    reads_more mode = more_none is_no_read (λ m next. read_kind m next is_no_read 0 (λ key. refl) (λ keys. refl) mode) n long
 
-    pub others_more : st.mode ≡ W → many no_write (on fs store xs p st n) ≡ many no_write st.answers
-    others_more mode = more_none no_write (λ m next. write_kind m next no_write 0 (λ ask is. ap (λ b. cond (not b) 1 0) is) mode) n long
+    pub others_more : st.mode ≡ W → many is_no_write (on fs store xs p st n) ≡ many is_no_write st.answers
+    others_more mode = more_none is_no_write (λ m next. write_kind m next is_no_write 0 (λ ask is. ap (λ b. cond (not b) 1 0) is) mode) n long
 
     pub writes_more : st.mode ≡ W → many is_write (on fs store xs p st n) ≡ n + many is_write st.answers
     writes_more mode = more_all is_write (λ m next. write_kind m next is_write 1 (λ ask is. ap (λ b. cond b 1 0) is) mode) n long
@@ -156,11 +157,8 @@ module _ (setup : Setup) (fs : List Function) (w : World) (holds : Holds setup f
       subst (MayLog w.store.fences st.mode st.cursor) same there_is.logs.may_log)
       from.logs
 
-  its_path : (q : List ℕ) (j : ℕ) → ◌≡◌ {A = Option (List ℕ × ℕ)} (Some (q, j)) (Some (p, i)) → ◌≡◌ {A = List ℕ × ℕ} (q, j) (p, i)
-  its_path q j e = let same : ◌≡◌ {A = List ℕ × ℕ} (q, j) (p, i) = cc in same
-
   pub asks_at : (q : List ℕ) (j : ℕ) (ask : Ask) → ◌≡◌ {A = Option (List ℕ × ℕ)} (Some (q, j)) (Some (p, i)) → Asks fs store xs q (stands setup fs store q xs) j ask → Asks fs store xs p st i ask
-  asks_at q j ask e asks = subst (λ (s : List ℕ × ℕ). Asks fs store xs s.0 (stands setup fs store s.0 xs) s.1 ask) (its_path q j e) asks
+  asks_at q j ask e asks = subst (λ (s : List ℕ × ℕ). Asks fs store xs s.0 (stands setup fs store s.0 xs) s.1 ask) (same_step (q, j) (p, i) e) asks
 
   abbrev Operates : Body → Type 0
   Operates body = IsOperation fs store w.store.fences xs p st i x.seq body
@@ -172,12 +170,12 @@ module _ (setup : Setup) (fs : List Function) (w : World) (holds : Holds setup f
 
   operation_of : (body : Body) → step_of body ≡ Some (p, i) → finish_of p body ≡ None → Fits setup fs store xs body → Operates body
   operation_of (b.Init q) e none fits =
-      absurd (let no_way : true ≡ false = sym begun ∙ ap (λ (s : List ℕ × ℕ). (stands setup fs store s.0 xs).begun) (sym (its_path q 1 e)) ∙ fits.new in let h : ⊥ = cc in h)
+      absurd (let no_way : true ≡ false = sym begun ∙ ap (λ (s : List ℕ × ℕ). (stands setup fs store s.0 xs).begun) (sym (same_step (q, 1) (p, i) e)) ∙ fits.new in let h : ⊥ = cc in h)
   operation_of (b.Finish q j outcome) e none fits =
-      absurd (let own : bytes_eq p q ≡ true = ap (λ (s : List ℕ × ℕ). bytes_eq p s.0) (its_path q j e) ∙ same_itself p in
+      absurd (let own : bytes_eq p q ≡ true = ap (λ (s : List ℕ × ℕ). bytes_eq p s.0) (same_step (q, j) (p, i) e) ∙ same_itself p in
       let no_way : Some outcome ≡ None = sym (ap (λ t. cond t (Some outcome) None) own) ∙ none in let h : ⊥ = cc in h)
   operation_of (b.Write q j place key here_is) e none fits =
-      operation (b.Write q j place key here_is) q j (o.Write key fits.value) a.Done e fits.asks refl (ap (λ (s : List ℕ × ℕ). bytes_eq p s.0) (its_path q j e) ∙ same_itself p)
+      operation (b.Write q j place key here_is) q j (o.Write key fits.value) a.Done e fits.asks refl (ap (λ (s : List ℕ × ℕ). bytes_eq p s.0) (same_step (q, j) (p, i) e) ∙ same_itself p)
   operation_of (b.Read q j key) e none fits = operation (b.Read q j key) q j (o.Read key) _ e fits (refl) refl
   operation_of (b.ReadGroup q j keys) e none fits = operation (b.ReadGroup q j keys) q j (o.ReadGroup keys) _ e fits (refl) refl
   operation_of (b.Spawn q j ordinal name args) e none fits = operation (b.Spawn q j ordinal name args) q j (o.Spawn ordinal fits.function args) _ e fits.asks (refl) refl

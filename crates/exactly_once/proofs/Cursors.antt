@@ -16,7 +16,7 @@ use Rattle.boki_types.specs.declared.plan.Setup.{Setup}
 use Rattle.boki_types.specs.declared.program.Function.{Function}
 use Rattle.boki_model.specs.Live.{Live}
 use Rattle.boki_model.specs.Bodies.{step_of}
-use Rattle.boki_model.specs.Writes.{Store, Version, Raised, version, versions_at, has_version}
+use Rattle.boki_model.specs.Writes.{Store, Version, Raised, version, versions_at}
 use Rattle.boki_machine.specs.Decided.{Point, asked_at, free_answer}
 use Rattle.exactly_once.specs.Sound.{AreNextWrites, MayStand, StandAt, frees_to, standing_at, AllFit}
 use Rattle.exactly_once.specs.Invariant.{MayLog, Logs}
@@ -92,6 +92,21 @@ version_within key c j most (v ∷ vs) each found = at (version_within key c j m
         let same : j ≡ v.k = eqb-true j v.k parts.1 in omega (arith, le, same)
     at ih false e found = ih found
 
+-- a free operation of the mode W is a write whose version is there
+pub record IsThere (store : Store) (c j : ℕ) (ask : Option Ask) (answer : Answer) : Type 0 where
+  pub key : List ℕ
+  pub value : Value
+  pub asks : ask ≡ Some (k.Op (o.Write key value))
+  pub there_is : is_some (version key c (suc j) store.versions) ≡ true
+
+pub is_there : (store : Store) (records : List (Live Body)) (c j : ℕ) (ask : Option Ask) (answer : Answer) → free_answer store records c j W ask ≡ Some answer → IsThere store c j ask answer
+is_there store records c j (Some (k.Op (o.Write key value))) answer e = record { key = key; value = value; asks = refl; there_is = at (is_some (version key c (suc j) store.versions)) e }
+  where
+    at : (b : Bool) → cond b (Some a.Done) None ≡ Some answer → b ≡ true
+    at true e = refl
+    at false e = cc
+is_there store records c j _ answer e = let no_way : None ≡ Some answer = e in cc
+
 -- the version of a number
 record IsVersion (n : ℕ) (vs : List Version) : Type 0 where
   pub v : Version
@@ -144,21 +159,12 @@ module _ (setup : Setup) (fs : List Function) (store : Store) (p : List ℕ) (c 
     numbered_here = stand_numbered fs store xs p st None st.mode (standing_at c store.versions) stand_here
 
     module _ (mode : st.mode ≡ W) where
-      next_writes : AreNextWrites fs store xs p st (standing_at c store.versions)
+      pub next_writes : AreNextWrites fs store xs p st (standing_at c store.versions)
       next_writes = subst (λ m. MayStand fs store xs p st None m (standing_at c store.versions)) mode stand_here
 
       within : At c (λ v. v.k ≤ versions_at c store.versions) store.versions
       within = at_of c (λ v. v.k ≤ versions_at c store.versions) store.versions
           (each_weaker (λ (v : Version). (0 < v.k) × (v.k ≤ versions_at c store.versions)) (λ (v : Version). v.k ≤ versions_at c store.versions) (λ v h. h.1) (standing_at c store.versions) (numbered_within (standing_at c store.versions) numbered_here))
-
-      -- at most as many operations are free as there are versions
-      is_there : (n : ℕ) (ask : Option Ask) (x : Answer) → free_answer store xs st.cursor n W ask ≡ Some x → suc n ≤ versions_at c store.versions
-      is_there n (Some (k.Op (o.Write key value))) x e = at (has_version key st.cursor (suc n) store) refl e
-        where
-          at : (t : Bool) → has_version key st.cursor (suc n) store ≡ t → cond t (Some a.Done) None ≡ Some x → suc n ≤ versions_at c store.versions
-          at true f e = version_within key c (suc n) (versions_at c store.versions) store.versions within (ap (λ c. is_some (version key c (suc n) store.versions)) (sym cursor) ∙ f)
-          at false f e = cc
-      is_there n _ x e = cc
 
       -- the next number has no version
       pub none_next : (key : List ℕ) → version key c (suc (versions_at c store.versions)) store.versions ≡ None
@@ -168,11 +174,13 @@ module _ (setup : Setup) (fs : List Function) (store : Store) (p : List ℕ) (c 
           at None e = refl
           at (Some v) e = absurd (let le = version_within key c (suc (versions_at c store.versions)) (versions_at c store.versions) store.versions within (ap is_some e) in let no_way : ⊥ = omega (arith, le) in no_way)
 
+      -- at most as many operations are free as there are versions
       pub frees_most : (n : ℕ) → length (on fs store xs p st n) ≡ n + length st.answers → n ≤ versions_at c store.versions
       frees_most zero long = omega arith
       frees_most (suc n) long =
           let next : IsNext fs store xs p st n = next_decided fs store xs p st n long in
-          is_there n (asked_at fs p st (on fs store xs p st n)) next.answer (ap (λ m. free_answer store xs st.cursor n m (asked_at fs p st (on fs store xs p st n))) (sym mode) ∙ next.free)
+          let t = is_there store xs st.cursor n (asked_at fs p st (on fs store xs p st n)) next.answer (ap (λ m. free_answer store xs st.cursor n m (asked_at fs p st (on fs store xs p st n))) (sym mode) ∙ next.free) in
+          version_within t.key c (suc n) (versions_at c store.versions) store.versions within (ap (λ c. is_some (version t.key c (suc n) store.versions)) (sym cursor) ∙ t.there_is)
 
       -- where the next operation is no write whose version is there, they are all free operations
       pub all_free : (free : ℕ) (ask : Ask) → length (on fs store xs p st free) ≡ free + length st.answers → asked_at fs p st (on fs store xs p st free) ≡ Some ask

@@ -1,6 +1,6 @@
 -- How many step records an invocation that has ended has in the log.
 use Rattle.std.proofs.Common.{◌≡◌, ℕ, suc, ◌+◌, Bool, true, false, cond, not, List, [], ◌∷◌, length, Option, Some, None, refl, sym, ap, ◌∙◌, subst, arith}
-use Rattle.std.specs.Prelude.{bytes_eq, is_some}
+use Rattle.std.specs.Prelude.{is_some}
 use Rattle.lb_base.specs.declared.value.Mode.TheVariants.{R, W, T}
 use Rattle.lb_base.specs.declared.value.Outcome.{Outcome}
 use Rattle.boki_types.specs.declared.body.Body.{Body}
@@ -26,23 +26,19 @@ use Rattle.exactly_once.proofs.Tails.{Tail, here, there, shorter, longer}
 use Rattle.exactly_once.proofs.Lives.{live_under}
 use Rattle.exactly_once.proofs.Maps.{same_itself, same_key}
 use Rattle.exactly_once.proofs.Points.{stands, Does, does, apart, began, operates, ends, unbegun, result_is}
-use Rattle.exactly_once.proofs.SamePlace.{place_is}
+use Rattle.exactly_once.proofs.SamePlace.{no_own_step, place_is}
 use Rattle.exactly_once.proofs.Frees.{on, long_reaches}
 use Rattle.exactly_once.proofs.Histories.{fit_tail, under_at, stands_on}
 use Rattle.exactly_once.proofs.FreeTurns.{stand_numbered}
 use Rattle.exactly_once.proofs.Cursors.{none_next}
-use Rattle.exactly_once.proofs.Counted.{no_read, no_write, any_more, reads_more, others_more, writes_more, none_more, IsOperation, is_operation, may, asks_at}
+use Rattle.exactly_once.proofs.Counted.{is_no_read, is_no_write, any_more, reads_more, others_more, writes_more, none_more, IsOperation, is_operation, may, asks_at}
 
 -- the end has a record of its own
 abbrev closed : Option Outcome → ℕ
 closed None = 0
 closed (Some outcome) = 1
 
--- A record that is no step record of the path is no write of it.
-apart_step : (p : List ℕ) (s : Option (List ℕ × ℕ)) → ((t : List ℕ × ℕ) → s ≡ Some t → bytes_eq p t.0 ≡ false) → is_step_of p s ≡ false
-apart_step p None other = refl
-apart_step p (Some t) other = other t refl
-
+-- a record that is no step record of the path is no write of it
 step_write : (p : List ℕ) (body : Body) → is_step_of p (step_of body) ≡ false → is_write_of p body ≡ false
 step_write p (b.Write q i place key here_is) other = other
 step_write p _ other = refl
@@ -111,8 +107,8 @@ module _ (setup : Setup) (fs : List Function) (w : World) (holds : Holds setup f
   record Counts (xs : List (Live Body)) (st : Point) : Type 0 where
     pub any : how_many is_any fs p st st.answers ≡ length st.answers
     pub in_T : st.mode ≡ T → length (steps_of p xs) ≡ suc (closed st.result + length st.answers)
-    pub in_R : st.mode ≡ R → length (steps_of p xs) ≡ suc (closed st.result + how_many no_read fs p st st.answers)
-    pub in_W : st.mode ≡ W → length (steps_of p xs) ≡ suc (closed st.result + (how_many no_write fs p st st.answers + writes_in p xs))
+    pub in_R : st.mode ≡ R → length (steps_of p xs) ≡ suc (closed st.result + how_many is_no_read fs p st st.answers)
+    pub in_W : st.mode ≡ W → length (steps_of p xs) ≡ suc (closed st.result + (how_many is_no_write fs p st st.answers + writes_in p xs))
     pub written : st.mode ≡ W → how_many is_write fs p st st.answers + versions_at st.cursor store.versions ≡ writes_in p xs + versions_in p store.versions xs
 
   module _ (x : Live Body) (xs : List (Live Body)) where
@@ -128,7 +124,7 @@ module _ (setup : Setup) (fs : List Function) (w : World) (holds : Holds setup f
           any = c.any;
           in_T = λ m. it.same_steps ∙ c.in_T m;
           in_R = λ m. it.same_steps ∙ c.in_R m;
-          in_W = λ m. it.same_steps ∙ c.in_W m ∙ ap (λ n. suc (closed st.result + (how_many no_write fs p st st.answers + n))) (sym writes);
+          in_W = λ m. it.same_steps ∙ c.in_W m ∙ ap (λ n. suc (closed st.result + (how_many is_no_write fs p st st.answers + n))) (sym writes);
           written = λ m. let e = c.written m in omega (arith, e, writes, versions);
         }
 
@@ -150,7 +146,7 @@ module _ (setup : Setup) (fs : List Function) (w : World) (holds : Holds setup f
           written = λ m. omega (arith, writes, versions, no_writes, no_versions);
         }
 
-    logged_R : (fences : List Raised) (cursor : ℕ) (op : Op) → MayLog fences R cursor (k.Op op) → picked no_read (Some (k.Op op)) ≡ 1
+    logged_R : (fences : List Raised) (cursor : ℕ) (op : Op) → MayLog fences R cursor (k.Op op) → picked is_no_read (Some (k.Op op)) ≡ 1
     logged_R fences cursor (o.Read key) may = absurd may
     logged_R fences cursor (o.ReadGroup keys) may = absurd may
     logged_R fences cursor _ may = refl
@@ -174,7 +170,7 @@ module _ (setup : Setup) (fs : List Function) (w : World) (holds : Holds setup f
         in_T = λ m. (let was = c.in_T m in let none = none_more fs store xs p st n long m in let one = own.one_step in omega (arith, was, none, one, long));
         in_R = λ m.
             (let was = c.in_R m in let more = reads_more fs store xs p st n long m in let one = own.one_step in
-            let pick = picks no_read in let logged = logged_R w.store.fences st.cursor op.op (subst (λ m. MayLog w.store.fences m st.cursor (k.Op op.op)) m op.may_log) in omega (arith, was, more, one, pick, logged));
+            let pick = picks is_no_read in let logged = logged_R w.store.fences st.cursor op.op (subst (λ m. MayLog w.store.fences m st.cursor (k.Op op.op)) m op.may_log) in omega (arith, was, more, one, pick, logged));
         in_W = λ m. in_mode_W m (is_write (k.Op op.op)) refl;
         written = λ m. writes_W m (is_write (k.Op op.op)) refl;
       }
@@ -185,14 +181,14 @@ module _ (setup : Setup) (fs : List Function) (w : World) (holds : Holds setup f
           picks : (test : Ask → Bool) → picked test (asked_at fs p st l) ≡ picked test (Some (k.Op op.op))
           picks test = ap (picked test) op.asked
 
-          in_mode_W : st.mode ≡ W → (u : Bool) → is_write (k.Op op.op) ≡ u → length (steps_of p (x ∷ xs)) ≡ suc (closed st.result + (how_many no_write fs p st (op.answer ∷ l) + writes_in p (x ∷ xs)))
+          in_mode_W : st.mode ≡ W → (u : Bool) → is_write (k.Op op.op) ≡ u → length (steps_of p (x ∷ xs)) ≡ suc (closed st.result + (how_many is_no_write fs p st (op.answer ∷ l) + writes_in p (x ∷ xs)))
           in_mode_W m true e =
               let was = c.in_W m in let more = others_more fs store xs p st n long m in let one = own.one_step in
-              let pick : picked no_write (asked_at fs p st l) ≡ 0 = picks no_write ∙ ap (λ b. cond (not b) 1 0) e in
+              let pick : picked is_no_write (asked_at fs p st l) ≡ 0 = picks is_no_write ∙ ap (λ b. cond (not b) 1 0) e in
               let writes : writes_in p (x ∷ xs) ≡ suc (writes_in p xs) = own.more_writes ∙ ap (λ b. cond b (suc (writes_in p xs)) (writes_in p xs)) e in omega (arith, was, more, one, pick, writes)
           in_mode_W m false e =
               let was = c.in_W m in let more = others_more fs store xs p st n long m in let one = own.one_step in
-              let pick : picked no_write (asked_at fs p st l) ≡ 1 = picks no_write ∙ ap (λ b. cond (not b) 1 0) e in
+              let pick : picked is_no_write (asked_at fs p st l) ≡ 1 = picks is_no_write ∙ ap (λ b. cond (not b) 1 0) e in
               let writes : writes_in p (x ∷ xs) ≡ writes_in p xs = own.more_writes ∙ ap (λ b. cond b (suc (writes_in p xs)) (writes_in p xs)) e in omega (arith, was, more, one, pick, writes)
 
           writes_W : st.mode ≡ W → (u : Bool) → is_write (k.Op op.op) ≡ u → how_many is_write fs p st (op.answer ∷ l) + versions_at x.seq store.versions ≡ writes_in p (x ∷ xs) + versions_in p store.versions (x ∷ xs)
@@ -226,7 +222,7 @@ module _ (setup : Setup) (fs : List Function) (w : World) (holds : Holds setup f
     where
       at : ((stands setup fs store p xs).begun ≡ true → Counts xs (stands setup fs store p xs)) → (next : Point) → next.begun ≡ true → Does setup fs store x.seq x.holds xs p next → Counts (x ∷ xs) next
       at ih next begun (apart other finish is) =
-          subst (Counts (x ∷ xs)) (sym is) (apart_counts x xs (apart_step p (step_of x.holds) other) (ih (ap (λ (st : Point). st.begun) (sym is) ∙ begun)))
+          subst (Counts (x ∷ xs)) (sym is) (apart_counts x xs (no_own_step p (step_of x.holds) other) (ih (ap (λ (st : Point). st.begun) (sym is) ∙ begun)))
       at ih next begun (began body may is) = subst (Counts (x ∷ xs)) (sym is) (began_counts x xs body may.new (fit_at xs (shorter t)))
       at ih next begun (operates i step finish reaches is) =
           let st = stands setup fs store p xs in

@@ -56,7 +56,7 @@ module _ (setup : Setup) (fs : List Function) (t : Attempt) (store : Store) (vie
     names_value : (place : ℕ) → t.place ≡ suc place → (key : List ℕ) (value : Value) → asked_by fs t ≡ Some (k.Op (o.Write key value)) → (t.mode ≡ W → t.late ≡ true) → new ≡ record store { named = name_if_new (name_for t) value store.named } → is_gone line ≡ false → Effect new line
 
   abbrev pub EffectOf : Move → Type 0
-  EffectOf move = Effect move.store move.line
+  EffectOf move = (move.attempt.engine ≡ t.engine) × Effect move.store move.line
 
   module _ (place : ℕ) (begun : t.place ≡ suc place) where
     -- The record at its place.
@@ -66,24 +66,24 @@ module _ (setup : Setup) (fs : List Function) (t : Attempt) (store : Store) (vie
       marker_effect keys is answer line said = at_floor (ltb x.seq store.floor) refl
         where
           at_floor : (b : Bool) → ltb x.seq store.floor ≡ b → EffectOf (cond b (gone t store) (adopts_answer t (cond b store (with_fences (raised keys x.seq store.fences) store)) x.seq answer line))
-          at_floor true e = stops_there place begun x found refl e
-          at_floor false e = fences_keys place begun x keys found is refl said
+          at_floor true e = (refl, stops_there place begun x found refl e)
+          at_floor false e = (refl, fences_keys place begun x keys found is refl said)
 
       join_effect : (p : List ℕ) (r : Option Outcome) → EffectOf (adopts_join t store x.seq p r)
-      join_effect p None = leaves refl refl
-      join_effect p (Some outcome) = leaves refl refl
+      join_effect p None = (refl, leaves refl refl)
+      join_effect p (Some outcome) = (refl, leaves refl refl)
 
       record_effect : (body : Body) → x.holds ≡ body → (other : Move) → EffectOf other → EffectOf (adopts_operation t store view x.seq body other)
       record_effect (b.Read p i key) e other is = marker_effect (key ∷ []) (ap keys_of e) (a.Value (or_none (read_fenced key x.seq store view))) (l.AdoptRead (seqnum x.seq) key (or_none (read_fenced key x.seq store view))) refl
       record_effect (b.ReadGroup p i keys) e other is =
           let vs = read_all (λ key. read_fenced key x.seq store view) keys in marker_effect keys (ap keys_of e) (a.Values vs) (l.AdoptReadAll (seqnum x.seq) (pairs keys vs)) refl
-      record_effect (b.Write p i place key value) e other is = leaves refl refl
-      record_effect (b.Spawn p i ordinal f args) e other is = leaves refl refl
+      record_effect (b.Write p i place key value) e other is = (refl, leaves refl refl)
+      record_effect (b.Spawn p i ordinal f args) e other is = (refl, leaves refl refl)
       record_effect (b.Join p i ordinal) e other is = join_effect (child p ordinal) (result_of (child p ordinal) view)
-      record_effect (b.Push p i queue value) e other is = leaves refl refl
-      record_effect (b.Pop p i queue) e other is = leaves refl refl
-      record_effect (b.TxnBegin p i names) e other is = leaves refl refl
-      record_effect (b.TxnCommit p i begin names writes) e other is = leaves refl refl
+      record_effect (b.Push p i queue value) e other is = (refl, leaves refl refl)
+      record_effect (b.Pop p i queue) e other is = (refl, leaves refl refl)
+      record_effect (b.TxnBegin p i names) e other is = (refl, leaves refl refl)
+      record_effect (b.TxnCommit p i begin names writes) e other is = (refl, leaves refl refl)
       record_effect _ e other is = is
 
     -- What is asked, where no record answers it.
@@ -92,37 +92,37 @@ module _ (setup : Setup) (fs : List Function) (t : Attempt) (store : Store) (vie
     below_cursor move is = at_floor (ltb t.cursor store.floor) refl
       where
         at_floor : (b : Bool) → ltb t.cursor store.floor ≡ b → EffectOf (cond b (gone t store) move)
-        at_floor true e = stops place begun refl e
+        at_floor true e = (refl, stops place begun refl e)
         at_floor false e = is
 
     reads_effect : (key : List ℕ) (mode : Mode) → EffectOf (reads t store view at key mode)
-    reads_effect key R = let v = or_none (read_free key t.cursor store view) in below_cursor (moves (answered_with t (a.Value v)) store (l.Read key v)) (leaves refl refl)
-    reads_effect key W = leaves refl refl
-    reads_effect key T = leaves refl refl
+    reads_effect key R = let v = or_none (read_free key t.cursor store view) in below_cursor (moves (answered_with t (a.Value v)) store (l.Read key v)) (refl, leaves refl refl)
+    reads_effect key W = (refl, leaves refl refl)
+    reads_effect key T = (refl, leaves refl refl)
 
     group_effect : (keys : List (List ℕ)) (mode : Mode) → EffectOf (reads_group t store view at keys mode)
-    group_effect keys R = let vs = read_all (λ key. read_free key t.cursor store view) keys in below_cursor (moves (answered_with t (a.Values vs)) store (l.ReadAll (pairs keys vs))) (leaves refl refl)
-    group_effect keys W = leaves refl refl
-    group_effect keys T = leaves refl refl
+    group_effect keys R = let vs = read_all (λ key. read_free key t.cursor store view) keys in below_cursor (moves (answered_with t (a.Values vs)) store (l.ReadAll (pairs keys vs))) (refl, leaves refl refl)
+    group_effect keys W = (refl, leaves refl refl)
+    group_effect keys T = (refl, leaves refl refl)
 
     module _ (key : List ℕ) (v : Value) (asked : asked_by fs t ≡ Some (k.Op (o.Write key v))) where
       logs_effect : (t.mode ≡ W → t.late ≡ true) → (inlined stored : Bool) → EffectOf (logs_write inlined stored t store at key v)
-      logs_effect late true stored = leaves refl refl
-      logs_effect late false true = leaves refl refl
+      logs_effect late true stored = (refl, leaves refl refl)
+      logs_effect late false true = (refl, leaves refl refl)
       logs_effect late false false = at_floor (ltb t.cursor store.floor) refl
         where
           at_floor : (b : Bool) → ltb t.cursor store.floor ≡ b → EffectOf (cond b (gone t store) (moves (record t { stored = true }) (cond b store (record store { named = name_if_new (name_for t) v store.named })) (l.Store key v)))
-          at_floor true e = stops place begun refl e
-          at_floor false e = names_value place begun key v asked late refl refl
+          at_floor true e = (refl, stops place begun refl e)
+          at_floor false e = (refl, names_value place begun key v asked late refl refl)
 
       puts_effect : t.mode ≡ W → t.late ≡ false → EffectOf (puts_free (put_at key t.cursor (suc t.k) store) t store key v)
       puts_effect mode late = at_put (ltb t.cursor store.floor) (has_version key t.cursor (suc t.k) store) (ltb t.cursor (fence key store.fences)) refl
         where
           at_put : (below there fenced : Bool) → ltb t.cursor store.floor ≡ below → EffectOf (puts_free (put_by below there fenced) t store key v)
-          at_put true there fenced e = stops place begun refl e
-          at_put false true fenced e = puts place begun key v asked mode late refl refl
-          at_put false false true e = leaves refl refl
-          at_put false false false e = puts place begun key v asked mode late refl refl
+          at_put true there fenced e = (refl, stops place begun refl e)
+          at_put false true fenced e = (refl, puts place begun key v asked mode late refl refl)
+          at_put false false true e = (refl, leaves refl refl)
+          at_put false false false e = (refl, puts place begun key v asked mode late refl refl)
 
       writes_effect : (mode : Mode) → t.mode ≡ mode → (late : Bool) → t.late ≡ late → EffectOf (writes setup t store at key v mode late)
       writes_effect W mode false late = puts_effect mode late
@@ -131,27 +131,27 @@ module _ (setup : Setup) (fs : List Function) (t : Attempt) (store : Store) (vie
       writes_effect T mode late e = logs_effect (λ in_W. absurd (let no_way : T ≡ W = sym mode ∙ in_W in let h : ⊥ = cc in h)) (is_inline setup t v) t.stored
 
     joins_effect : (ordinal : ℕ) (r : Option Outcome) → EffectOf (joins t store at ordinal r)
-    joins_effect ordinal None = leaves refl refl
-    joins_effect ordinal (Some outcome) = leaves refl refl
+    joins_effect ordinal None = (refl, leaves refl refl)
+    joins_effect ordinal (Some outcome) = (refl, leaves refl refl)
 
     operates_effect : (op : Op) → asked_by fs t ≡ Some (k.Op op) → EffectOf (operates setup fs t store view at op)
     operates_effect (o.Read key) asked = reads_effect key t.mode
     operates_effect (o.ReadGroup keys) asked = group_effect keys t.mode
     operates_effect (o.Write key v) asked = writes_effect key v asked t.mode refl t.late refl
-    operates_effect (o.Spawn ordinal f args) asked = leaves refl refl
+    operates_effect (o.Spawn ordinal f args) asked = (refl, leaves refl refl)
     operates_effect (o.Join ordinal) asked = joins_effect ordinal (result_of (child t.path ordinal) view)
-    operates_effect (o.Push queue v) asked = leaves refl refl
-    operates_effect (o.Pop queue) asked = leaves refl refl
-    operates_effect (o.Begin names) asked = leaves refl refl
-    operates_effect (o.Commit names ws) asked = leaves refl refl
+    operates_effect (o.Push queue v) asked = (refl, leaves refl refl)
+    operates_effect (o.Pop queue) asked = (refl, leaves refl refl)
+    operates_effect (o.Begin names) asked = (refl, leaves refl refl)
+    operates_effect (o.Commit names ws) asked = (refl, leaves refl refl)
 
     asks_effect : (ask : Option Ask) → asked_by fs t ≡ ask → EffectOf (asks setup fs t store view at ask)
-    asks_effect None asked = leaves refl refl
-    asks_effect (Some (k.Done outcome)) asked = leaves refl refl
+    asks_effect None asked = (refl, leaves refl refl)
+    asks_effect (Some (k.Done outcome)) asked = (refl, leaves refl refl)
     asks_effect (Some (k.Op op)) asked = operates_effect op asked
 
   waits_effect : (waiting : Bool) (other : Move) → EffectOf other → EffectOf (unless_waiting waiting t store other)
-  waits_effect true other is = leaves refl refl
+  waits_effect true other is = (refl, leaves refl refl)
   waits_effect false other is = is
 
   takes_effect : (place : ℕ) → t.place ≡ suc place → (ask : Option Ask) (x : Option (Live Body)) → nth (step_tag t.path) t.place view ≡ x → (other : Move) → EffectOf other → EffectOf (takes t store view (answers_to t ask x) other)
@@ -165,8 +165,8 @@ module _ (setup : Setup) (fs : List Function) (t : Attempt) (store : Store) (vie
   takes_effect place begun None x found other is = is
 
   begins_effect : (call : Call) (x : Option (Live Body)) → EffectOf (begins setup fs t store view at call x)
-  begins_effect call (Some x) = leaves refl refl
-  begins_effect call None = waits_effect t.waiting (sends_record t store (b.Init t.path) (l.SendInit at)) (leaves refl refl)
+  begins_effect call (Some x) = (refl, leaves refl refl)
+  begins_effect call None = waits_effect t.waiting (sends_record t store (b.Init t.path) (l.SendInit at)) (refl, leaves refl refl)
 
   placed_effect : (call : Call) (place : ℕ) → t.place ≡ place → EffectOf (placed setup fs t store view at call place)
   placed_effect call zero is = begins_effect call (nth (step_tag t.path) 0 view)
@@ -175,15 +175,15 @@ module _ (setup : Setup) (fs : List Function) (t : Attempt) (store : Store) (vie
       (waits_effect t.waiting (asks setup fs t store view at (asked_by fs t)) (asks_effect place is (asked_by fs t) refl))
 
   call_effect : (r : Option Outcome) (call : Option Call) → EffectOf (with_call setup fs t store view at r call)
-  call_effect (Some outcome) call = leaves refl refl
-  call_effect None None = leaves refl refl
+  call_effect (Some outcome) call = (refl, leaves refl refl)
+  call_effect None None = (refl, leaves refl refl)
   call_effect None (Some call) = placed_effect call t.place refl
 
   running_effect : (life : Life) → EffectOf (if_running setup fs t store view at life)
   running_effect Running = call_effect (result_of t.path view) (call_of t.path view)
-  running_effect Over = leaves refl refl
-  running_effect Stopped = leaves refl refl
-  running_effect Killed = leaves refl refl
+  running_effect Over = (refl, leaves refl refl)
+  running_effect Stopped = (refl, leaves refl refl)
+  running_effect Killed = (refl, leaves refl refl)
 
   pub step_effect : EffectOf (step setup fs store view at t)
   step_effect = running_effect t.life

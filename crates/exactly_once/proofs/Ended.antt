@@ -26,25 +26,26 @@ use Rattle.boki_machine.specs.Attempt.{Attempt, next_index}
 use Rattle.boki_machine.specs.Decided.{Point, point}
 use Rattle.boki_machine.specs.Step.{asked_by, name_for, step, miss}
 use Rattle.exactly_once.specs.Sound.{AllFit}
-use Rattle.exactly_once.specs.Steps.{IsOwn, is_step_of, steps_of}
+use Rattle.exactly_once.specs.Steps.{IsOwn, steps_of}
 use Rattle.exactly_once.specs.Exclusion.{IsEnded}
 use Rattle.exactly_once.specs.Invariant.{World, records, values, marks, marks_at, marks_by, AreFenced, AllFenced, FencedBehind, Logs, IsNext, IsStep, IsOfKind, Follows, IsAmong, Holds}
 use Rattle.exactly_once.specs.Moves.{seen_by}
 use Rattle.exactly_once.specs.Ended.{HoldsValue, NamesStay, unchanged, one_more, StoreStays}
 use Rattle.exactly_once.proofs.Tails.{Tail, here, there, longer}
 use Rattle.exactly_once.proofs.Each.{each_tail}
-use Rattle.exactly_once.proofs.Lives.{live_under}
+use Rattle.exactly_once.proofs.Lives.{live_under, under_tail}
 use Rattle.exactly_once.proofs.Maps.{same_key, same_itself}
 use Rattle.exactly_once.proofs.Steps.{in_order}
 use Rattle.exactly_once.proofs.Exclusion.{below_floor}
 use Rattle.exactly_once.proofs.Points.{stands, Does, does, apart, began, operates, ends, unbegun, result_is}
-use Rattle.exactly_once.proofs.SamePlace.{IsSamePlace, same_point, marks_apart, fit_upto, place_is}
+use Rattle.exactly_once.proofs.SamePlace.{no_own_step, IsSamePlace, same_point, marks_apart, fit_upto, place_is}
 use Rattle.exactly_once.proofs.Puts.{marks_behind}
 use Rattle.exactly_once.proofs.Histories.{upto_tail, HasInit, has_init, stands_on}
-use Rattle.exactly_once.proofs.Origins.{StepLogs, next_logs, step_is_path, entry_of, origin}
-use Rattle.exactly_once.proofs.Acting.{asked_all, own_log, engine_at, following, up_to}
+use Rattle.exactly_once.proofs.OpenTransactions.{same_step}
+use Rattle.exactly_once.proofs.Origins.{own_log, asked_is, StepLogs, next_logs, step_is_path, entry_of, origin}
+use Rattle.exactly_once.proofs.Acting.{engine_at, following, up_to}
 use Rattle.exactly_once.proofs.Writers.{IsWriter}
-use Rattle.exactly_once.proofs.LastCursor.{FirstAbove, first_above, unended_now, under_tail}
+use Rattle.exactly_once.proofs.LastCursor.{FirstAbove, first_above, unended_now}
 use Rattle.exactly_once.proofs.Recorded.{IsTagged, IsRecorded, recorded, all_tagged, earlier}
 use Rattle.exactly_once.proofs.OneValue.{one_ask}
 use Rattle.exactly_once.proofs.FreeSteps.{not_fresh}
@@ -52,7 +53,7 @@ use Rattle.exactly_once.proofs.Sends as sends
 use Rattle.exactly_once.proofs.Effects.{keys_of, is_gone, Effect, leaves, stops, stops_there, fences_keys, puts, names_value, step_effect, miss_effect}
 
 path_is : (s t : List ℕ × ℕ) → Some s ≡ Some t → s.0 ≡ t.0
-path_is s t e = let same : s ≡ t = cc in ap (λ (s : List ℕ × ℕ). s.0) same
+path_is s t e = ap (λ (s : List ℕ × ℕ). s.0) (same_step s t e)
 
 pub tail_among : {A : Type 0} (x : A) (xs ys : List A) → Tail (x ∷ xs) ys → IsAmong x ys
 tail_among x xs ys here = inl refl
@@ -68,10 +69,6 @@ module _ (setup : Setup) (fs : List Function) (store : Store) (fences : List Rai
   ended_marks [] fit fenced ended = let no_way : false ≡ true = ended in cc
   ended_marks (x ∷ xs) fit fenced ended = at (ended_marks xs fit.2 fenced.2) (stands setup fs store p (x ∷ xs)) refl (does setup fs store x xs p fit.0)
     where
-      no_step : (s : Option (List ℕ × ℕ)) → ((t : List ℕ × ℕ) → s ≡ Some t → bytes_eq p t.0 ≡ false) → is_step_of p s ≡ false
-      no_step None other = refl
-      no_step (Some t) other = other t refl
-
       before : finish_of p x.holds ≡ None → IsEnded p xs
       before none = by (result_of p xs) (ap (λ o. is_some (or_else (result_of p xs) o)) (sym none) ∙ ended)
         where
@@ -80,7 +77,7 @@ module _ (setup : Setup) (fs : List Function) (store : Store) (fences : List Rai
           by (Some r) e = refl
 
       at : (IsEnded p xs → AreFenced fences (marks p xs)) → (next : Point) → stands setup fs store p (x ∷ xs) ≡ next → Does setup fs store x.seq x.holds xs p next → AreFenced fences (marks p (x ∷ xs))
-      at ih next e (apart other finish is) = subst (AreFenced fences) (sym (marks_apart p x.seq x.holds (marks p xs) (no_step (step_of x.holds) other))) (ih (before finish))
+      at ih next e (apart other finish is) = subst (AreFenced fences) (sym (marks_apart p x.seq x.holds (marks p xs) (no_own_step p (step_of x.holds) other))) (ih (before finish))
       at ih next e (began body may is) = absurd (not_over (x ∷ xs) fit ended (ap (λ (st : Point). st.result) (e ∙ is)))
       at ih next e (operates i step finish reaches is) = absurd (not_over (x ∷ xs) fit ended (ap (λ (st : Point). st.result) (e ∙ is) ∙ reaches.unended))
       at ih next e (ends i outcome body asks is) =
@@ -174,10 +171,10 @@ module _ (setup : Setup) (fs : List Function) (w : World) (holds : Holds setup f
   dead p ended r among i step_is = at (meets r.condition now) refl
     where
       is : IsStep setup fs store w.store.fences (length w.log) now p r.condition r.holds
-      is = subst (IsOfKind setup fs store w.store.fences (length w.log) now r.condition r.holds) step_is (asked_all setup fs w holds r among).kind
+      is = subst (IsOfKind setup fs store w.store.fences (length w.log) now r.condition r.holds) step_is (asked_is setup fs w holds r among).kind
 
       path : IsPath p
-      path = step_is_path p i r.holds step_is (asked_all setup fs w holds r among).own.paths
+      path = step_is_path p i r.holds step_is (asked_is setup fs w holds r among).own.paths
 
       unended : (point setup fs store p (upto is.c now)).result ≡ None
       unended =
@@ -352,7 +349,7 @@ module _ (setup : Setup) (fs : List Function) (w : World) (holds : Holds setup f
     pub step_leaves : IsEnded t.path now → (at : Sent) → Stays (step setup fs w.store (seen_by t w) at t).store
     step_leaves ended at =
         let move = step setup fs w.store (seen_by t w) at t in
-        effect_stays ended at move.store move.line (step_effect setup fs t w.store (seen_by t w) at)
+        effect_stays ended at move.store move.line (step_effect setup fs t w.store (seen_by t w) at).1
 
     pub miss_leaves : IsEnded t.path now → Sent → Stays (miss setup fs w.store (seen_by t w) t).store
     miss_leaves ended at =
@@ -362,4 +359,4 @@ module _ (setup : Setup) (fs : List Function) (w : World) (holds : Holds setup f
     pub gone_only : (at : Sent) → (step setup fs w.store (seen_by t w) at t).line ≡ l.StoppedGone → IsEnded t.path now
     gone_only at is =
         let move = step setup fs w.store (seen_by t w) at t in
-        gone_ended at move.store move.line (step_effect setup fs t w.store (seen_by t w) at) (ap is_gone is)
+        gone_ended at move.store move.line (step_effect setup fs t w.store (seen_by t w) at).1 (ap is_gone is)

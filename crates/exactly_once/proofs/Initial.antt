@@ -15,7 +15,7 @@ use Rattle.boki_model.specs.Writes.{Store, swept}
 use Rattle.boki_machine.specs.Attempt.{Attempt}
 use Rattle.boki_machine.specs.Step.{step, miss}
 use Rattle.boki_machine.specs.Machine.{Machine, view, position, next_sent, done, uses, cut, cuts_nothing, attempt_at, starts, sends_step, with_attempt, steps, kills, loses_record, misses, ends_if_closed, ends_switch, gets_aux, aux_at, aux_of, happens, run}
-use Rattle.exactly_once.proofs.Engines.{step_stays, miss_same}
+use Rattle.exactly_once.proofs.Engines.{step_stays, miss_stays}
 
 module _ (setup : Setup) (fs : List Function) (m : Machine) (P : Store → Type 0) (was : P m.store) (by_step : (a : Attempt) (at : Sent) → P (step setup fs m.store (view m a.engine) at a).store) (by_miss : (a : Attempt) → P (miss setup fs m.store (view m a.engine) a).store) (by_sweep : (n : ℕ) → P (swept n m.store)) where
   abbrev Keeps : Machine → Type 0
@@ -87,4 +87,4 @@ run_stays setup fs [] m = refl
 run_stays setup fs (e ∷ es) m =
     run_stays setup fs es (happens setup fs m e).machine
     ∙ event_keeps setup fs m (λ s. s.initial ≡ m.store.initial) refl
-    (λ a at. (step_stays setup fs a m.store (view m a.engine) at).1) (λ a. miss_same setup fs a m.store (view m a.engine)) (λ n. refl) e
+    (λ a at. (step_stays setup fs a m.store (view m a.engine) at).1) (λ a. miss_stays setup fs a m.store (view m a.engine) (record { shard = 0; local = 0 })) (λ n. refl) e

@@ -1,6 +1,6 @@
 -- Beyond the cursor of an attempt that may put in a version, its invocation has no step record; and no invocation of mode R
 -- stands at or above it.
-use Rattle.std.proofs.Common.{◌≡◌, ◌⊎◌, inl, inr, ⊎_elim, ℕ, ◌<◌, ◌≤◌, Bool, true, false, cond, leb, List, [], ◌∷◌, length, Option, Some, None, refl, sym, ap, ◌∙◌, arith}
+use Rattle.std.proofs.Common.{◌≡◌, ◌⊎◌, inl, inr, ⊎_elim, ℕ, ◌<◌, ◌≤◌, Bool, true, false, cond, leb, List, [], ◌∷◌, length, Some, None, refl, sym, ap, ◌∙◌, arith}
 use Rattle.std.specs.Prelude.{is_some}
 use Rattle.std.proofs.lemmas.Bool.{cases_lt}
 use Rattle.lb_base.specs.declared.value.Value.{Value}
@@ -18,13 +18,14 @@ use Rattle.exactly_once.specs.Sound.{AllFit}
 use Rattle.exactly_once.specs.Steps.{is_step_of, steps_of}
 use Rattle.exactly_once.specs.Invariant.{World, records, values, Holds}
 use Rattle.exactly_once.proofs.Tails.{Tail, here, there, longer, shorter}
-use Rattle.exactly_once.proofs.Lives.{Under, under_more, live_under, tail_below, tails_by_seq}
-use Rattle.exactly_once.proofs.Maps.{same_key, same_itself}
+use Rattle.exactly_once.proofs.Lives.{Under, under_tail, live_under, tail_below, tails_by_seq}
+use Rattle.exactly_once.proofs.Maps.{same_itself}
 use Rattle.exactly_once.proofs.Exclusion.{tails_exclude, ended_later}
 use Rattle.exactly_once.proofs.Points.{stands, cursor_within, result_is}
 use Rattle.exactly_once.proofs.SamePlace.{IsSamePlace, same_point, skipped}
 use Rattle.exactly_once.proofs.Histories.{compare_tails, upto_tail, under_at, not_leb, one_record, fit_tail, HasInit, has_init, ended_stays}
 use Rattle.exactly_once.proofs.Origins.{origin}
+use Rattle.exactly_once.proofs.Recorded.{step_is as step_is_at}
 use Rattle.exactly_once.proofs.Writers.{IsWriter, its, its_mode, logs_apart}
 
 -- The first step record of an invocation above a seqnum.
@@ -36,10 +37,6 @@ pub record FirstAbove (setup : Setup) (fs : List Function) (store : Store) (p : 
   pub index : ℕ
   pub step_is : step_of step.holds ≡ Some (p, index)
   pub same : stands setup fs store p rest ≡ stands setup fs store p (upto c all)
-
-step_index : (p : List ℕ) (s : Option (List ℕ × ℕ)) → is_step_of p s ≡ true → (i : ℕ) × (s ≡ Some (p, i))
-step_index p None e = cc
-step_index p (Some s) e = (s.1, λ i. Some ((sym (same_key p s.0 e)) i, s.1))
 
 module _ (setup : Setup) (fs : List Function) (store : Store) (p : List ℕ) (c : ℕ) (all : List (Live Body)) where
   pub first_above : (ys : List (Live Body)) → upto c ys ≡ upto c all → IsSamePlace p c ys ⊎ FirstAbove setup fs store p c all ys
@@ -54,7 +51,7 @@ module _ (setup : Setup) (fs : List Function) (store : Store) (p : List ℕ) (c 
 
       above_it : leb y.seq c ≡ false → upto c ys ≡ upto c all → IsSamePlace p c ys → (b : Bool) → is_step_of p (step_of y.holds) ≡ b → IsSamePlace p c (y ∷ ys) ⊎ FirstAbove setup fs store p c all (y ∷ ys)
       above_it t e same true is =
-          let s = step_index p (step_of y.holds) is in
+          let s = step_is_at p (step_of y.holds) is in
           inr (record { step = y; rest = ys; tail = here; index = s.0; step_is = s.1; same = same_point setup fs store p c ys same ∙ ap (stands setup fs store p) e })
       above_it t e same false is =
           inl (ap (λ b. length (steps_of p (cond b (y ∷ ys) (upto c ys)))) t ∙ same ∙ sym (ap (λ b. length (cond b (y.seq ∷ steps_of p ys) (steps_of p ys))) is))
@@ -72,10 +69,6 @@ none_above p c i x xs n ys under same here step lt =
 none_above p c i x xs n (y ∷ ys) under same (there t) step lt =
     let above = tail_below n x y xs ys under t in
     none_above p c i x xs under.0 ys under.3 (skipped p c y ys (not_leb y.seq c (omega (arith, above, lt))) same).rest t step lt
-
-pub under_tail : (ys : List (Live Body)) (m : ℕ) (xs : List (Live Body)) → Under m xs → Tail ys xs → Under m ys
-under_tail ys m xs under here = under
-under_tail ys m (x ∷ xs) under (there t) = under_more under.0 m ys (let lt = under.2 in omega (arith, lt)) (under_tail ys under.0 xs under.3 t)
 
 module _ (setup : Setup) (fs : List Function) (w : World) (holds : Holds setup fs w) (a : Attempt) (key : List ℕ) (value : Value) (writer : IsWriter setup fs (values w.store) w.store.fences (records w) a key value) where
   abbrev store : Store

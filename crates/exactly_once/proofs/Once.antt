@@ -1,15 +1,12 @@
 -- Each key, version and name stands once in the store.
-use Rattle.std.proofs.Common.{◌≡◌, ⊎_elim, ℕ, suc, Bool, true, false, cond, ltb, ◌&&◌, not, List, [], ◌∷◌, Option, Some, None, refl, sym, ◌∙◌, subst}
+use Rattle.std.proofs.Common.{◌≡◌, ⊎_elim, ℕ, suc, Bool, true, false, cond, ltb, ◌&&◌, not, List, [], ◌∷◌, Some, refl, sym, ◌∙◌, subst}
 use Rattle.std.specs.Prelude.{is_some}
 use Rattle.std.specs.List.{filter, AllByRecursion}
-use Rattle.std.specs.declared.cmp.Ordering.{Ordering}
-use Rattle.std.specs.declared.cmp.Ordering.TheVariants.{Less, Equal, Greater}
-use Rattle.std.specs.Ordering.{is_lt, is_eq}
+use Rattle.std.specs.Ordering.{is_lt}
 use Rattle.std.specs.FinMap.Entries.{is_sorted, below_all}
 use Rattle.std.proofs.lemmas.Bool.{and_parts}
 use Rattle.std.proofs.lemmas.Map.Text.{is_eq-slice_cmp}
 use Rattle.lb_base.specs.declared.value.Value.{Value}
-use Rattle.lb_base.specs.declared.value.Value.TheVariants.{Nothing}
 use Rattle.boki_types.specs.declared.body.Body.{Body}
 use Rattle.boki_types.specs.declared.event.Event.{Event}
 use Rattle.boki_types.specs.declared.line.StepLine.{StepLine}
@@ -18,59 +15,31 @@ use Rattle.boki_types.specs.declared.plan.Setup.{Setup}
 use Rattle.boki_types.specs.declared.program.Function.{Function}
 use Rattle.boki_types.specs.declared.store.Name.{Name}
 use Rattle.boki_model.specs.Live.{Live}
-use Rattle.boki_model.specs.Maps.{key_order, put}
+use Rattle.boki_model.specs.Maps.{key_order}
 use Rattle.boki_model.specs.MapLaws.{InOrder}
-use Rattle.boki_model.specs.Writes.{Store, Stored, Version, fence, value_of, version, has_version, after_put, name_if_new, logged_write, initial_keys, logged_key, logged_keys_below, version_keys_below, keys_below}
-use Rattle.boki_model.proofs.KeyMaps.{put_in_order}
+use Rattle.boki_model.specs.Writes.{Store, Stored, Version, fence, value_of, version, has_version, after_put, name_if_new, keys_below}
 use Rattle.boki_machine.specs.Attempt.{Attempt}
 use Rattle.boki_machine.specs.Step.{name_for, step, miss}
 use Rattle.boki_machine.specs.Machine.{Machine, view, happens, run}
 use Rattle.exactly_once.specs.Held.{Once, same_key, same_version, same_stored}
+use Rattle.exactly_once.proofs.Reported.{less_apart, keys_in_order}
 use Rattle.exactly_once.proofs.Effects.{Effect, leaves, stops, stops_there, fences_keys, puts, names_value, step_effect, miss_effect}
 use Rattle.exactly_once.proofs.Initial.{event_keeps}
 
 -- Keys.
 
-lt_not_eq : (r : Ordering) → is_lt r ≡ true → is_eq r ≡ false
-lt_not_eq Less e = refl
-lt_not_eq Greater e = refl
-lt_not_eq Equal e = let no_way : false ≡ true = e in cc
-
 apart_below : (x : List ℕ × Value) (m : List (List ℕ × Value)) → below_all key_order x.0 m ≡ true → AllByRecursion (λ y. same_key x y ≡ false) m
 apart_below x [] e = tt
 apart_below x (y ∷ m) e =
     let parts = and_parts (is_lt (key_order x.0 y.0)) (below_all key_order x.0 m) e in
-    (sym (is_eq-slice_cmp x.0 y.0) ∙ lt_not_eq (key_order x.0 y.0) parts.0, apart_below x m parts.1)
+    (sym (is_eq-slice_cmp x.0 y.0) ∙ less_apart (key_order x.0 y.0) parts.0, apart_below x m parts.1)
 
 sorted_once : (m : List (List ℕ × Value)) → InOrder m → Once same_key m
 sorted_once [] e = tt
 sorted_once (x ∷ m) e = let parts = and_parts (below_all key_order x.0 m) (is_sorted key_order m) e in (apart_below x m parts.0, sorted_once m parts.1)
 
-initial_in_order : (objects : List (List ℕ × Value)) → InOrder (initial_keys objects)
-initial_in_order [] = refl
-initial_in_order (x ∷ xs) = put_in_order x.0 Nothing (initial_keys xs) (initial_in_order xs)
-
-logged_in_order : (n : ℕ) (records : List (Live Body)) (keys : List (List ℕ × Value)) → InOrder keys → InOrder (logged_keys_below n records keys)
-logged_in_order n [] keys is = is
-logged_in_order n (x ∷ xs) keys is = at (ltb x.seq n) (logged_write x.holds) (logged_in_order n xs keys is)
-  where
-    at : (t : Bool) (o : Option (List ℕ × (Name × Option Value))) → InOrder (logged_keys_below n xs keys) → InOrder (logged_key t o (logged_keys_below n xs keys))
-    at true (Some w) ih = put_in_order w.0 Nothing (logged_keys_below n xs keys) ih
-    at true None ih = ih
-    at false o ih = ih
-
-versions_in_order : (n : ℕ) (vs : List Version) (keys : List (List ℕ × Value)) → InOrder keys → InOrder (version_keys_below n vs keys)
-versions_in_order n [] keys is = is
-versions_in_order n (v ∷ vs) keys is = at (ltb v.cursor n) (versions_in_order n vs keys is)
-  where
-    at : (t : Bool) → InOrder (version_keys_below n vs keys) → InOrder (cond t (put v.key Nothing (version_keys_below n vs keys)) (version_keys_below n vs keys))
-    at true ih = put_in_order v.key Nothing (version_keys_below n vs keys) ih
-    at false ih = ih
-
 pub keys_once : (n : ℕ) (store : Store) (records : List (Live Body)) → Once same_key (keys_below n store records)
-keys_once n store records =
-    sorted_once (keys_below n store records)
-    (versions_in_order n store.versions (logged_keys_below n records (initial_keys store.initial)) (logged_in_order n records (initial_keys store.initial) (initial_in_order store.initial)))
+keys_once n store records = sorted_once (keys_below n store records) (keys_in_order n store records)
 
 -- Versions and names.
 
@@ -146,7 +115,7 @@ module _ (setup : Setup) (fs : List Function) where
   step_once : (t : Attempt) (store : Store) (seen : List (Live Body)) (at : Sent) → StandOnce store → StandOnce (step setup fs store seen at t).store
   step_once t store seen at once =
       let move = step setup fs store seen at t in
-      effect_once t store seen at move.store move.line once (step_effect setup fs t store seen at)
+      effect_once t store seen at move.store move.line once (step_effect setup fs t store seen at).1
 
   miss_once : (t : Attempt) (store : Store) (seen : List (Live Body)) → StandOnce store → StandOnce (miss setup fs store seen t).store
   miss_once t store seen once =
