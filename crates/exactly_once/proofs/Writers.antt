@@ -1,6 +1,6 @@
 -- An attempt that may put in a version: the versions at its cursor are those that it has counted, and no operation of its
 -- invocation is logged there.
-use Rattle.std.proofs.Common.{◌≡◌, ℕ, zero, suc, ◌+◌, ◌<◌, ◌≤◌, ◌-◌, true, List, [], ◌∷◌, length, Option, Some, None, refl, sym, ap, ◌∙◌, subst, arith}
+use Rattle.std.proofs.Common.{◌≡◌, ℕ, zero, suc, ◌+◌, ◌<◌, ◌≤◌, ◌-◌, true, List, ◌∷◌, length, Option, Some, None, refl, sym, ap, ◌∙◌, subst, arith}
 use Rattle.lb_base.specs.declared.value.Value.{Value}
 use Rattle.lb_base.specs.declared.value.Mode.TheVariants.{W}
 use Rattle.boki_types.specs.declared.body.Body.{Body}
@@ -21,6 +21,7 @@ use Rattle.exactly_once.specs.Invariant.{MayLog, Logs, Follows, Counts}
 use Rattle.exactly_once.proofs.Tails.{Tail, longer}
 use Rattle.exactly_once.proofs.Lives.{Under}
 use Rattle.exactly_once.proofs.Points.{stands}
+use Rattle.exactly_once.proofs.OpenTransactions.{same_step}
 use Rattle.exactly_once.proofs.SamePlace.{under_upto}
 use Rattle.exactly_once.proofs.Cursors.{next_writes, frees_most, all_free}
 use Rattle.exactly_once.proofs.Histories.{upto_tail, one_record, upto_at, fit_tail, StandsOn, stands_on}
@@ -121,15 +122,11 @@ module _ (setup : Setup) (fs : List Function) (store : Store) (fences : List Rai
       let one : on.on ∷ on.behind ≡ stood.on ∷ stood.behind = one_record on.on stood.on on.behind stood.behind n now under (longer on.tail t) on_tail (on.seq_is ∙ cursor ∙ sym on_seq) in
       let first : on.on ≡ stood.on = cc in
       let steps : Some (q, on.index) ≡ Some (a.path, stood.index) = sym on.step ∙ ap (λ (x : Live Body). step_of x.holds) first ∙ stood.step in
-      let path : q ≡ a.path = ap path_in steps in
+      let path : q ≡ a.path = ap (λ (s : List ℕ × ℕ). s.0) (same_step (q, on.index) (a.path, stood.index) steps) in
       record {
         path_is = path;
         same = on.same ∙ ap (stands setup fs store q) (one ∙ sym behind_is) ∙ ap (λ q. stands setup fs store q behind_it) path;
       }
-    where
-      path_in : Option (List ℕ × ℕ) → List ℕ
-      path_in None = []
-      path_in (Some s) = s.0
 
   -- and there it logs nothing
   logs_at : (xs : List (Live Body)) (st : Point) (i : ℕ) (ask : Ask) → st ≡ its → Logs fs store fences xs a.path st i ask → ⊥
