@@ -24,7 +24,7 @@ use Rattle.exactly_once.proofs.Tails.{Tail, here, there}
 use Rattle.exactly_once.proofs.Each.{each_weaker}
 use Rattle.exactly_once.proofs.Lives.{Under}
 use Rattle.exactly_once.proofs.Positions.{numbered_within, numbered_once, At, at_of, found_version}
-use Rattle.exactly_once.specs.Economy.{AreNumbered}
+use Rattle.exactly_once.specs.Sound.{AreNumbered}
 use Rattle.exactly_once.proofs.Points.{stands, Does, does, apart, began, operates, ends, cursor_within}
 use Rattle.exactly_once.proofs.Frees.{on, IsNext, next_decided, long_reaches, is_read, IsRead, reads, reads_all}
 use Rattle.exactly_once.proofs.FreeTurns.{stand_numbered}

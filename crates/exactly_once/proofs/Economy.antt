@@ -21,7 +21,8 @@ use Rattle.exactly_once.specs.Sound.{Fits, AllFit, MayStand, StandAt, standing_a
 use Rattle.exactly_once.specs.Exclusion.{IsEnded}
 use Rattle.exactly_once.specs.Steps.{is_step_of, steps_of}
 use Rattle.exactly_once.specs.Invariant.{World, records, values, MayLog, Holds}
-use Rattle.exactly_once.specs.Economy.{AreNumbered, AllNumbered, is_any, is_write, picked, how_many, is_write_of, writes_in, versions_in, WasLate, WereLate, IsEconomic}
+use Rattle.exactly_once.specs.Economy.{AllNumbered, is_any, is_write, picked, how_many, is_write_of, writes_in, versions_in, WasLate, WereLate, IsEconomic}
+use Rattle.exactly_once.specs.Sound.{AreNumbered}
 use Rattle.exactly_once.proofs.Tails.{Tail, here, there, shorter, longer}
 use Rattle.exactly_once.proofs.Lives.{live_under}
 use Rattle.exactly_once.proofs.Maps.{same_itself, same_key}

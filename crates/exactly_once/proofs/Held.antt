@@ -19,7 +19,7 @@ use Rattle.exactly_once.specs.Exact.{MachineHolds, EventsKeep}
 use Rattle.exactly_once.specs.Opening.{world_of}
 use Rattle.exactly_once.specs.Exclusion.{IsEnded}
 use Rattle.exactly_once.specs.Invariant.{World, records, values, IsOwed, IsAmong, Holds}
-use Rattle.exactly_once.specs.Held.{same_version, same_stored, WritesName, Finishes, IsOpen, HeldOnce}
+use Rattle.exactly_once.specs.Held.{is_same_version, is_same_stored, WritesName, Finishes, IsOpen, HeldOnce}
 use Rattle.exactly_once.specs.Laws.{AfterEvents}
 use Rattle.exactly_once.proofs.Tails.{Tail, here, there}
 use Rattle.exactly_once.proofs.Lives.{live_under, tails_by_seq}
@@ -138,9 +138,10 @@ module _ (setup : Setup) (fs : List Function) (w : World) (holds : Holds setup f
 
 held_is : (setup : Setup) (fs : List Function) (m : Machine) → MachineHolds setup fs m → StandOnce m.store → HeldOnce setup fs m
 held_is setup fs m good once = record {
+  counted = refl;
   keys = keys_once m.store.floor m.store (live_log m);
-  versions = kept_once same_version (λ v. leb m.store.floor v.cursor) m.store.versions once.versions;
-  names = kept_once same_stored (λ s. not (is_settled s.name m.store.floor (live_log m))) m.store.named once.named;
+  versions = kept_once is_same_version (λ v. leb m.store.floor v.cursor) m.store.versions once.versions;
+  names = kept_once is_same_stored (λ s. not (is_settled s.name m.store.floor (live_log m))) m.store.named once.named;
   floor = each_passes (λ v. Unit {0}) (λ v. m.store.floor ≤ v.cursor) (λ v. leb m.store.floor v.cursor) (λ v e any. leb-true m.store.floor v.cursor e) m.store.versions (any_each m.store.versions);
   open_names = open_names setup fs (world_of m) good.holds;
 }

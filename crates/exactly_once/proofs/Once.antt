@@ -21,24 +21,24 @@ use Rattle.boki_model.specs.Writes.{Store, Stored, Version, fence, value_of, ver
 use Rattle.boki_machine.specs.Attempt.{Attempt}
 use Rattle.boki_machine.specs.Step.{name_for, step, miss}
 use Rattle.boki_machine.specs.Machine.{Machine, view, happens, run}
-use Rattle.exactly_once.specs.Held.{Once, same_key, same_version, same_stored}
+use Rattle.exactly_once.specs.Held.{Once, is_same_key, is_same_version, is_same_stored}
 use Rattle.exactly_once.proofs.Reported.{less_apart, keys_in_order}
 use Rattle.exactly_once.proofs.Effects.{Effect, leaves, stops, stops_there, fences_keys, puts, names_value, step_effect, miss_effect}
 use Rattle.exactly_once.proofs.Initial.{event_keeps}
 
 -- Keys.
 
-apart_below : (x : List ℕ × Value) (m : List (List ℕ × Value)) → below_all key_order x.0 m ≡ true → AllByRecursion (λ y. same_key x y ≡ false) m
+apart_below : (x : List ℕ × Value) (m : List (List ℕ × Value)) → below_all key_order x.0 m ≡ true → AllByRecursion (λ y. is_same_key x y ≡ false) m
 apart_below x [] e = tt
 apart_below x (y ∷ m) e =
     let parts = and_parts (is_lt (key_order x.0 y.0)) (below_all key_order x.0 m) e in
     (sym (is_eq-slice_cmp x.0 y.0) ∙ less_apart (key_order x.0 y.0) parts.0, apart_below x m parts.1)
 
-sorted_once : (m : List (List ℕ × Value)) → InOrder m → Once same_key m
+sorted_once : (m : List (List ℕ × Value)) → InOrder m → Once is_same_key m
 sorted_once [] e = tt
 sorted_once (x ∷ m) e = let parts = and_parts (below_all key_order x.0 m) (is_sorted key_order m) e in (apart_below x m parts.0, sorted_once m parts.1)
 
-pub keys_once : (n : ℕ) (store : Store) (records : List (Live Body)) → Once same_key (keys_below n store records)
+pub keys_once : (n : ℕ) (store : Store) (records : List (Live Body)) → Once is_same_key (keys_below n store records)
 keys_once n store records = sorted_once (keys_below n store records) (keys_in_order n store records)
 
 -- Versions and names.
@@ -60,25 +60,25 @@ module _ {A : Type 0} (same : A → A → Bool) (test : A → Bool) where
       at true ih = (kept_apart x xs once.0, ih)
       at false ih = ih
 
-version_new : (v : Version) (vs : List Version) → is_some (version v.key v.cursor v.k vs) ≡ false → AllByRecursion (λ u. same_version v u ≡ false) vs
+version_new : (v : Version) (vs : List Version) → is_some (version v.key v.cursor v.k vs) ≡ false → AllByRecursion (λ u. is_same_version v u ≡ false) vs
 version_new v [] e = tt
-version_new v (u ∷ vs) e = at (version_new v vs) (same_version v u) refl e
+version_new v (u ∷ vs) e = at (version_new v vs) (is_same_version v u) refl e
   where
-    at : (is_some (version v.key v.cursor v.k vs) ≡ false → AllByRecursion (λ u. same_version v u ≡ false) vs) → (t : Bool) → same_version v u ≡ t → is_some (cond t (Some u.value) (version v.key v.cursor v.k vs)) ≡ false → (same_version v u ≡ false) × AllByRecursion (λ u. same_version v u ≡ false) vs
+    at : (is_some (version v.key v.cursor v.k vs) ≡ false → AllByRecursion (λ u. is_same_version v u ≡ false) vs) → (t : Bool) → is_same_version v u ≡ t → is_some (cond t (Some u.value) (version v.key v.cursor v.k vs)) ≡ false → (is_same_version v u ≡ false) × AllByRecursion (λ u. is_same_version v u ≡ false) vs
     at ih true f e = let no_way : true ≡ false = e in cc
     at ih false f e = (f, ih e)
 
-name_new : (s : Stored) (ss : List Stored) → is_some (value_of s.name ss) ≡ false → AllByRecursion (λ t. same_stored s t ≡ false) ss
+name_new : (s : Stored) (ss : List Stored) → is_some (value_of s.name ss) ≡ false → AllByRecursion (λ t. is_same_stored s t ≡ false) ss
 name_new s [] e = tt
-name_new s (t ∷ ss) e = at (name_new s ss) (same_stored s t) refl e
+name_new s (t ∷ ss) e = at (name_new s ss) (is_same_stored s t) refl e
   where
-    at : (is_some (value_of s.name ss) ≡ false → AllByRecursion (λ t. same_stored s t ≡ false) ss) → (b : Bool) → same_stored s t ≡ b → is_some (cond b (Some t.value) (value_of s.name ss)) ≡ false → (same_stored s t ≡ false) × AllByRecursion (λ t. same_stored s t ≡ false) ss
+    at : (is_some (value_of s.name ss) ≡ false → AllByRecursion (λ t. is_same_stored s t ≡ false) ss) → (b : Bool) → is_same_stored s t ≡ b → is_some (cond b (Some t.value) (value_of s.name ss)) ≡ false → (is_same_stored s t ≡ false) × AllByRecursion (λ t. is_same_stored s t ≡ false) ss
     at ih true f e = let no_way : true ≡ false = e in cc
     at ih false f e = (f, ih e)
 
 pub record StandOnce (store : Store) : Type 0 where
-  pub versions : Once same_version store.versions
-  pub named : Once same_stored store.named
+  pub versions : Once is_same_version store.versions
+  pub named : Once is_same_stored store.named
 
 put_once : (key : List ℕ) (c j : ℕ) (value : Value) (store : Store) → StandOnce store → StandOnce (after_put key c j value store)
 put_once key c j value store once = at (ltb c store.floor) (has_version key c j store) (ltb c (fence key store.fences)) refl
@@ -92,13 +92,13 @@ put_once key c j value store once = at (ltb c store.floor) (has_version key c j 
     at false false true e = once
     at false false false e = record { versions = (version_new v store.versions e, once.versions); named = once.named }
 
-name_once : (name : Name) (value : Value) (store : Store) → StandOnce store → Once same_stored (name_if_new name value store.named)
+name_once : (name : Name) (value : Value) (store : Store) → StandOnce store → Once is_same_stored (name_if_new name value store.named)
 name_once name value store once = at (is_some (value_of name store.named)) refl
   where
     s : Stored
     s = record { name = name; value = value }
 
-    at : (t : Bool) → is_some (value_of name store.named) ≡ t → Once same_stored (cond t store.named (s ∷ store.named))
+    at : (t : Bool) → is_some (value_of name store.named) ≡ t → Once is_same_stored (cond t store.named (s ∷ store.named))
     at true e = once.named
     at false e = (name_new s store.named e, once.named)
 

@@ -23,7 +23,7 @@ use Rattle.exactly_once.proofs.Lives.{Under, live_under}
 use Rattle.exactly_once.proofs.Maps.{get_other, get-put_objects}
 use Rattle.exactly_once.proofs.Each.{each_weaker}
 use Rattle.exactly_once.proofs.Positions.{last_first}
-use Rattle.exactly_once.specs.Economy.{AreNumbered}
+use Rattle.exactly_once.specs.Sound.{AreNumbered}
 use Rattle.exactly_once.proofs.Stages.{stage_rise}
 use Rattle.exactly_once.proofs.Points.{stands, Does, does, apart, began, operates, ends, cursor_within}
 use Rattle.exactly_once.proofs.Frees.{more_older}

@@ -11,7 +11,7 @@ use Rattle.exactly_once.proofs.Each.{each_weaker}
 use Rattle.exactly_once.proofs.Lives.{Under}
 use Rattle.exactly_once.proofs.Lasts.{not_below_zero}
 use Rattle.exactly_once.proofs.Positions.{At, at_of, numbered_within, numbered_once, found_version, last_behind, last_apart, last_over, last_logged, last_version}
-use Rattle.exactly_once.specs.Economy.{AreNumbered}
+use Rattle.exactly_once.specs.Sound.{AreNumbered}
 
 each_version : (P : Version → Type 0) → ((v : Version) → P v) → (vs : List Version) → AllByRecursion P vs
 each_version P all [] = tt

@@ -16,7 +16,7 @@ use Rattle.boki_model.specs.Writes.{Store, Version, Raised, fence, version, vers
 use Rattle.boki_machine.specs.Decided.{Point, point, asked_at}
 use Rattle.boki_machine.specs.Machine.{Machine, live_log}
 use Rattle.exactly_once.specs.Exclusion.{IsEnded}
-use Rattle.exactly_once.specs.Sound.{standing_at}
+use Rattle.exactly_once.specs.Sound.{AreNumbered, standing_at}
 use Rattle.exactly_once.specs.Steps.{is_step_of, steps_of}
 use Rattle.exactly_once.specs.Invariant.{values}
 
@@ -58,11 +58,7 @@ versions_in path versions [] = 0
 versions_in path versions (x ∷ xs) =
     cond (is_step_of path (step_of x.holds)) (versions_at x.seq versions + versions_in path versions xs) (versions_in path versions xs)
 
--- the versions that stand at one record, the newest first, are numbered from 1
-abbrev pub AreNumbered : List Version → Type 0
-AreNumbered [] = Unit {0}
-AreNumbered (v ∷ vs) = (v.k ≡ suc (length vs)) × AreNumbered vs
-
+-- the versions at each record are numbered
 abbrev pub AllNumbered : List Version → List (Live Body) → Type 0
 AllNumbered versions [] = Unit {0}
 AllNumbered versions (x ∷ xs) = AreNumbered (standing_at x.seq versions) × AllNumbered versions xs
