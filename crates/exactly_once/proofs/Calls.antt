@@ -22,10 +22,9 @@ use Rattle.boki_machine.specs.Turns.{until, turn_of}
 use Rattle.boki_machine.specs.Ideal.{Invocation, Ideal, invoked, running, unless_ended, submitted, with_invocation, go, ideal}
 use Rattle.boki_machine.specs.Ideal as ideal
 use Rattle.boki_model.proofs.KeyMaps.{get-put_same}
-use Rattle.exactly_once.specs.Sound.{Asks, MaySubmit, MayBegin, standing_at, MayStand, AllFit}
+use Rattle.exactly_once.specs.Sound.{Asks, MaySubmit, MayBegin, standing_at, MayStand, AllFit, AreNumbered}
 use Rattle.exactly_once.proofs.Lives.{Under}
 use Rattle.exactly_once.proofs.Maps.{same_itself, get_other}
-use Rattle.exactly_once.specs.Sound.{AreNumbered}
 use Rattle.exactly_once.proofs.Stages.{stage_before, stage_other, stage_end}
 use Rattle.exactly_once.proofs.Points.{stands, cursor_within, unbegun, uncalled, is_called, still_called, IsCalled}
 use Rattle.exactly_once.proofs.Goes.{AreLast, others_put, by_key, go_start}

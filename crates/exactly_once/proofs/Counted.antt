@@ -27,8 +27,7 @@ use Rattle.exactly_once.proofs.Lives.{live_under, upto_whole}
 use Rattle.exactly_once.proofs.Maps.{same_itself}
 use Rattle.exactly_once.proofs.Points.{stands, cursor_within}
 use Rattle.exactly_once.proofs.SamePlace.{same_more, cursor_upto}
-use Rattle.exactly_once.proofs.Frees.{on, IsNext, next_decided, IsRead, reads, reads_all}
-use Rattle.exactly_once.proofs.Frees.{is_read as is_read_free}
+use Rattle.exactly_once.proofs.Frees.{on, IsNext, next_decided, IsRead, reads, reads_all, is_read as is_read_free}
 use Rattle.exactly_once.proofs.Histories.{under_at, upto_at, fit_tail}
 use Rattle.exactly_once.proofs.OpenTransactions.{same_step}
 use Rattle.exactly_once.proofs.Origins.{IsLogged, origin}

@@ -18,13 +18,12 @@ use Rattle.boki_model.specs.Live.{Live}
 use Rattle.boki_model.specs.Bodies.{step_of}
 use Rattle.boki_model.specs.Writes.{Store, Version, Raised, version, versions_at}
 use Rattle.boki_machine.specs.Decided.{Point, asked_at, free_answer}
-use Rattle.exactly_once.specs.Sound.{AreNextWrites, MayStand, StandAt, frees_to, standing_at, AllFit}
+use Rattle.exactly_once.specs.Sound.{AreNextWrites, MayStand, StandAt, frees_to, standing_at, AllFit, AreNumbered}
 use Rattle.exactly_once.specs.Invariant.{MayLog, Logs}
 use Rattle.exactly_once.proofs.Tails.{Tail, here, there}
 use Rattle.exactly_once.proofs.Each.{each_weaker}
 use Rattle.exactly_once.proofs.Lives.{Under}
 use Rattle.exactly_once.proofs.Positions.{numbered_within, numbered_once, At, at_of, found_version}
-use Rattle.exactly_once.specs.Sound.{AreNumbered}
 use Rattle.exactly_once.proofs.Points.{stands, Does, does, apart, began, operates, ends, cursor_within}
 use Rattle.exactly_once.proofs.Frees.{on, IsNext, next_decided, long_reaches, is_read, IsRead, reads, reads_all}
 use Rattle.exactly_once.proofs.FreeTurns.{stand_numbered}

@@ -17,12 +17,11 @@ use Rattle.boki_model.specs.Bodies.{step_of}
 use Rattle.boki_model.specs.Writes.{Store, Version, Raised, version, versions_at}
 use Rattle.boki_machine.specs.Attempt.{call_of}
 use Rattle.boki_machine.specs.Decided.{Point, asked_at, and_answer, transaction_behind, operated, initiated, finished}
-use Rattle.exactly_once.specs.Sound.{Fits, AllFit, MayStand, StandAt, standing_at, frees_to, Reaches}
+use Rattle.exactly_once.specs.Sound.{Fits, AllFit, MayStand, StandAt, standing_at, frees_to, Reaches, AreNumbered}
 use Rattle.exactly_once.specs.Exclusion.{IsEnded}
 use Rattle.exactly_once.specs.Steps.{is_step_of, steps_of}
 use Rattle.exactly_once.specs.Invariant.{World, records, values, MayLog, Holds}
 use Rattle.exactly_once.specs.Economy.{AllNumbered, is_any, is_write, picked, how_many, is_write_of, writes_in, versions_in, WasLate, WereLate, IsEconomic}
-use Rattle.exactly_once.specs.Sound.{AreNumbered}
 use Rattle.exactly_once.proofs.Tails.{Tail, here, there, shorter, longer}
 use Rattle.exactly_once.proofs.Lives.{live_under}
 use Rattle.exactly_once.proofs.Maps.{same_itself, same_key}

@@ -12,10 +12,9 @@ use Rattle.boki_model.specs.Live.{Live}
 use Rattle.boki_model.specs.Writes.{Store, Version, version, last}
 use Rattle.boki_machine.specs.Decided.{Point, asked_at, or_none, values_below, free_answer}
 use Rattle.boki_machine.specs.Ideal.{Invocation, Ideal, Dirty}
-use Rattle.exactly_once.specs.Sound.{standing_at, AreNextWrites, MayStand}
+use Rattle.exactly_once.specs.Sound.{standing_at, AreNextWrites, MayStand, AreNumbered}
 use Rattle.exactly_once.proofs.Tails.{Tail, here, shorter}
 use Rattle.exactly_once.proofs.Lives.{Under}
-use Rattle.exactly_once.specs.Sound.{AreNumbered}
 use Rattle.exactly_once.proofs.Frees.{on, IsNext, next_decided, is_read, IsRead, reads, reads_all, AreFound, writes_long, IsWritten, is_written}
 use Rattle.exactly_once.proofs.Stages.{is_found, stage_version, stage_others, stage_end}
 use Rattle.exactly_once.proofs.Goes.{Gone, moved_to, answering, go_answer, go_write}

@@ -15,9 +15,8 @@ use Rattle.boki_machine.specs.Attempt.{call_in, call_of}
 use Rattle.boki_machine.specs.Decided.{Point, unknown, more, function_of}
 use Rattle.boki_machine.specs.Turns.{until}
 use Rattle.boki_machine.specs.Ideal.{Invocation, Ideal, Dirty, invoked, go}
-use Rattle.exactly_once.specs.Sound.{Reaches, frees_to, standing_at, MayStand, AllFit}
+use Rattle.exactly_once.specs.Sound.{Reaches, frees_to, standing_at, MayStand, AllFit, AreNumbered}
 use Rattle.exactly_once.proofs.Lives.{Under}
-use Rattle.exactly_once.specs.Sound.{AreNumbered}
 use Rattle.exactly_once.proofs.Points.{stands, IsCalled, is_called}
 use Rattle.exactly_once.proofs.Frees.{on, more_older, long_reaches, index_is}
 use Rattle.exactly_once.proofs.Goes.{AreLast, Gone, by_key}

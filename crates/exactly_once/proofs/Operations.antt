@@ -18,10 +18,9 @@ use Rattle.boki_machine.specs.Turns.{until}
 use Rattle.boki_machine.specs.Ideal.{Invocation, Ideal, asked_by}
 use Rattle.boki_machine.specs.Ideal as ideal
 use Rattle.boki_model.proofs.KeyMaps.{get-put_same}
-use Rattle.exactly_once.specs.Sound.{Reaches, frees_to, standing_at, MayStand, StandAt, AllFit}
+use Rattle.exactly_once.specs.Sound.{Reaches, frees_to, standing_at, MayStand, StandAt, AllFit, AreNumbered}
 use Rattle.exactly_once.proofs.Lives.{Under}
 use Rattle.exactly_once.proofs.Maps.{same_itself, get_other}
-use Rattle.exactly_once.specs.Sound.{AreNumbered}
 use Rattle.exactly_once.proofs.Stages.{stage_before, stage_other}
 use Rattle.exactly_once.proofs.Points.{stands, cursor_within}
 use Rattle.exactly_once.proofs.Frees.{on, long_reaches, index_is}

@@ -10,8 +10,7 @@ use Rattle.boki_types.specs.declared.store.Name.{Name}
 use Rattle.boki_model.specs.Live.{Live}
 use Rattle.boki_model.specs.Maps.{get}
 use Rattle.boki_model.specs.Writes.{Store, Version, Stored, Write, write_at, version, here_or_named, if_key, logged_write, logged_writes, version_writes, initial_writes, writes_of, with, is_below, last_below, last}
-use Rattle.exactly_once.specs.Sound.{standing_at}
-use Rattle.exactly_once.specs.Sound.{AreNumbered}
+use Rattle.exactly_once.specs.Sound.{standing_at, AreNumbered}
 use Rattle.exactly_once.proofs.Tails.{Tail, here, there, tail_cases}
 use Rattle.exactly_once.proofs.Each.{each_append, each_weaker, each_both, each_kept, tail_prepend, tail_append}
 use Rattle.exactly_once.proofs.Maps.{same_itself}

@@ -17,13 +17,12 @@ use Rattle.boki_machine.specs.Decided.{Point}
 use Rattle.boki_machine.specs.Turns.{turn_of, turns_to, ahead_by}
 use Rattle.boki_machine.specs.Ideal.{Invocation, Ideal, turn, ideal, opening}
 use Rattle.boki_model.proofs.KeyMaps.{get-put_same}
-use Rattle.exactly_once.specs.Sound.{Reaches, frees_to, standing_at, StandAt, AllFit}
+use Rattle.exactly_once.specs.Sound.{Reaches, frees_to, standing_at, StandAt, AllFit, AreNumbered}
 use Rattle.exactly_once.specs.Runs.{SoundRuns}
 use Rattle.exactly_once.proofs.Lives.{Under, live_under}
 use Rattle.exactly_once.proofs.Maps.{get_other, get-put_objects}
 use Rattle.exactly_once.proofs.Each.{each_weaker}
 use Rattle.exactly_once.proofs.Positions.{last_first}
-use Rattle.exactly_once.specs.Sound.{AreNumbered}
 use Rattle.exactly_once.proofs.Stages.{stage_rise}
 use Rattle.exactly_once.proofs.Points.{stands, Does, does, apart, began, operates, ends, cursor_within}
 use Rattle.exactly_once.proofs.Frees.{more_older}
