@@ -85,7 +85,7 @@ module _ (setup : Setup) (fs : List Function) (store : Store) (fences : List Rai
           (subst (λ s. FencedBehind fences s xs) (ap step_of body) fenced.0)
 
 module _ (fences : List Raised) where
-  marks_tail : (p : List ℕ) (ys xs : List (Live Body)) → Tail ys xs → AreFenced fences (marks p xs) → AreFenced fences (marks p ys)
+  pub marks_tail : (p : List ℕ) (ys xs : List (Live Body)) → Tail ys xs → AreFenced fences (marks p xs) → AreFenced fences (marks p ys)
   marks_tail p ys xs here all = all
   marks_tail p ys (x ∷ xs) (there t) all = marks_tail p ys xs t (marks_behind fences p x.seq x.holds (marks p xs) all)
 

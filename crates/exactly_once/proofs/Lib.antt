@@ -62,4 +62,5 @@ pub mod Counted
 pub mod Economy
 pub mod Once
 pub mod Held
+pub mod Kept
 pub mod Laws

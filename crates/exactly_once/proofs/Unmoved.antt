@@ -59,7 +59,7 @@ module _ (setup : Setup) (fs : List Function) (w : World) (holds : Holds setup f
           none_above a.path a.cursor i x xs (length w.log) now under (no_later setup fs w holds a key value writer) t
           (step ∙ ap (λ q. Some (q, i)) it.path_is) (omega (arith, le, first, cursor))
 
-  safe_behind : (x : Live Body) (xs : List (Live Body)) (q : List ℕ) (i n : ℕ) → Tail (x ∷ xs) now → step_of x.holds ≡ Some (q, i) → NotInit v old fs fences writer.unfenced x.holds → IsSafe v old (stands setup fs old q xs) n
+  pub safe_behind : (x : Live Body) (xs : List (Live Body)) (q : List ℕ) (i n : ℕ) → Tail (x ∷ xs) now → step_of x.holds ≡ Some (q, i) → NotInit v old fs fences writer.unfenced x.holds → IsSafe v old (stands setup fs old q xs) n
   safe_behind x xs q i n t step not_init = at (stands setup fs old q (x ∷ xs)) (does setup fs old x xs q (fit_tail setup fs old (x ∷ xs) now t holds.sound.fit).0)
     where
       from : (stands setup fs old q xs).begun ≡ true → IsSafe v old (stands setup fs old q xs) n

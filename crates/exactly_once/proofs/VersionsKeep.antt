@@ -76,7 +76,7 @@ module _ (setup : Setup) (fs : List Function) (w : World) (holds : Holds setup f
   kept_point q xs t fenced = point_kept setup fs w holds a key value writer q xs t fenced
 
   -- so many free operations of an invocation are decided
-  safe_at : (q : List ℕ) (xs : List (Live Body)) (m : ℕ) → Tail xs Now → (point setup fs Old q xs).begun ≡ true → length (more fs Old xs q (point setup fs Old q xs) m) ≡ m + length (point setup fs Old q xs).answers → IsSafe V Old (point setup fs Old q xs) m
+  pub safe_at : (q : List ℕ) (xs : List (Live Body)) (m : ℕ) → Tail xs Now → (point setup fs Old q xs).begun ≡ true → length (more fs Old xs q (point setup fs Old q xs) m) ≡ m + length (point setup fs Old q xs).answers → IsSafe V Old (point setup fs Old q xs) m
   safe_at q xs m t begun long = record { low = λ mode. reads_below setup fs w holds a key value writer q xs t begun mode; few = λ mode. at_cursor }
     where
       decided_here : (st : Point) (records_of : List (Live Body)) → st ≡ Its → length (more fs Old records_of a.path st m) ≡ m + length st.answers → m ≤ length Standing

@@ -16,3 +16,4 @@ pub mod Laws
 pub mod Ended
 pub mod Economy
 pub mod Held
+pub mod Kept
