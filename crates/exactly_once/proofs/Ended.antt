@@ -50,6 +50,7 @@ use Rattle.exactly_once.proofs.Recorded.{IsTagged, IsRecorded, recorded, all_tag
 use Rattle.exactly_once.proofs.OneValue.{one_ask}
 use Rattle.exactly_once.proofs.FreeSteps.{not_fresh}
 use Rattle.exactly_once.proofs.Sends as sends
+use Rattle.exactly_once.proofs.Operates.{no_value}
 use Rattle.exactly_once.proofs.Effects.{keys_of, is_gone, Effect, leaves, stops, stops_there, fences_keys, puts, names_value, step_effect, miss_effect}
 
 path_is : (s t : List ℕ × ℕ) → Some s ≡ Some t → s.0 ≡ t.0
@@ -270,13 +271,9 @@ module _ (setup : Setup) (fs : List Function) (w : World) (holds : Holds setup f
       not_put : (key : List ℕ) (value : Value) → asked_by fs t ≡ Some (k.Op (o.Write key value)) → t.mode ≡ W → after_put key t.cursor (suc t.k) value w.store ≡ w.store
       not_put key value asked mode = at (ltb t.cursor w.store.floor) (has_version key t.cursor (suc t.k) w.store) (ltb t.cursor (fence key w.store.fences)) refl refl
         where
-          none : (o : Option Value) → is_some o ≡ false → o ≡ None
-          none None e = refl
-          none (Some v) e = let no_way : true ≡ false = e in cc
-
           never : has_version key t.cursor (suc t.k) w.store ≡ false → ltb t.cursor (fence key w.store.fences) ≡ false → ⊥
           never absent before =
-              let writer : IsWriter setup fs store w.store.fences now t key value = record { follows = f; mode_is = mode; asks = asked; new = none (version key t.cursor (suc t.k) w.store.versions) absent; unfenced = ltb-false t.cursor (fence key w.store.fences) before } in
+              let writer : IsWriter setup fs store w.store.fences now t key value = record { follows = f; mode_is = mode; asks = asked; new = no_value (version key t.cursor (suc t.k) w.store.versions) absent; unfenced = ltb-false t.cursor (fence key w.store.fences) before } in
               let no_way : false ≡ true = ap is_some (sym (unended_now setup fs w holds t key value writer)) ∙ ended in cc
 
           at : (below_it there_is fenced : Bool) → has_version key t.cursor (suc t.k) w.store ≡ there_is → ltb t.cursor (fence key w.store.fences) ≡ fenced

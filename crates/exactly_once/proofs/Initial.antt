@@ -1,5 +1,5 @@
 -- What an event does to the store: a step or a miss does what it does, a sweep lifts the floor, and no other event changes it.
-use Rattle.std.proofs.Common.{◌≡◌, ℕ, Bool, true, false, cond, leb, ◌&&◌, List, [], ◌∷◌, Option, Some, None, refl, ◌∙◌}
+use Rattle.std.proofs.Common.{◌≡◌, ℕ, Bool, true, false, cond, leb, ◌&&◌, List, [], ◌∷◌, Option, Some, None, refl, sym, subst, ◌∙◌}
 use Rattle.boki_types.specs.declared.body.Body.{Body}
 use Rattle.boki_types.specs.declared.event.Event.{Event}
 use Rattle.boki_types.specs.declared.event.Event.TheVariants as v
@@ -17,74 +17,79 @@ use Rattle.boki_machine.specs.Step.{step, miss}
 use Rattle.boki_machine.specs.Machine.{Machine, view, position, next_sent, done, uses, cut, cuts_nothing, attempt_at, starts, sends_step, with_attempt, steps, kills, loses_record, misses, ends_if_closed, ends_switch, gets_aux, aux_at, aux_of, happens, run}
 use Rattle.exactly_once.proofs.Engines.{step_stays, miss_stays}
 
-module _ (setup : Setup) (fs : List Function) (m : Machine) (P : Store → Type 0) (was : P m.store) (by_step : (a : Attempt) (at : Sent) → P (step setup fs m.store (view m a.engine) at a).store) (by_miss : (a : Attempt) → P (miss setup fs m.store (view m a.engine) a).store) (by_sweep : (n : ℕ) → P (swept n m.store)) where
-  abbrev Keeps : Machine → Type 0
-  Keeps n = P n.store
+module _ (setup : Setup) (fs : List Function) (m : Machine) (Keeps : Machine → Type 0) (same : (n : Machine) → n.store ≡ m.store → Keeps n) (by_step : (n : ℕ) (a : Attempt) → attempt_at n m.attempts ≡ Some a → Keeps (steps setup fs m n (Some a)).machine) (by_miss : (n : ℕ) (a : Attempt) → attempt_at n m.attempts ≡ Some a → Keeps (misses setup fs m (Some a)).machine) (by_sweep : (n : ℕ) → Keeps (record m { store = swept n m.store })) where
+  steps_keep : (n : ℕ) (o : Option Attempt) → attempt_at n m.attempts ≡ o → Keeps (steps setup fs m n o).machine
+  steps_keep n None e = same m refl
+  steps_keep n (Some a) e = by_step n a e
 
-  sends_keep : (engine : ℕ) (r : Option (Entry Body)) (n : Machine) → Keeps n → Keeps (sends_step setup engine r n)
-  sends_keep engine None n is = is
-  sends_keep engine (Some r) n is = is
+  misses_keep : (n : ℕ) (o : Option Attempt) → attempt_at n m.attempts ≡ o → Keeps (misses setup fs m o).machine
+  misses_keep n None e = same m refl
+  misses_keep n (Some a) e = by_miss n a e
 
-  steps_keep : (n : ℕ) (o : Option Attempt) → Keeps (steps setup fs m n o).machine
-  steps_keep n None = was
-  steps_keep n (Some a) =
-      let at = next_sent setup m a.engine in
-      let move = step setup fs m.store (view m a.engine) at a in
-      sends_keep a.engine move.sends (with_attempt n move.attempt (record m { store = move.store })) (by_step a at)
-
-  misses_keep : (o : Option Attempt) → Keeps (misses setup fs m o).machine
-  misses_keep None = was
-  misses_keep (Some a) = by_miss a
-
-  cut_keeps : Keeps (cut m)
-  cut_keeps = elim (cuts_nothing m) as (λ t. Keeps (cond t m (record m { vectors = progress m.shards m.counts ∷ m.vectors }))) [ true ↦ was | false ↦ was ]
+  cut_store : (cut m).store ≡ m.store
+  cut_store = elim (cuts_nothing m) as (λ t. (cond t m (record m { vectors = progress m.shards m.counts ∷ m.vectors })).store ≡ m.store) [ true ↦ refl | false ↦ refl ]
 
   starts_keep : (n : ℕ) (path : List ℕ) (engine : ℕ) (o : Option Attempt) → Keeps (starts m n path engine o).machine
-  starts_keep n path engine None = was
-  starts_keep n path engine (Some a) = was
+  starts_keep n path engine None = same _ refl
+  starts_keep n path engine (Some a) = same _ refl
 
   kills_keep : (n : ℕ) (o : Option Attempt) → Keeps (kills m n o).machine
-  kills_keep n None = was
-  kills_keep n (Some a) = was
+  kills_keep n None = same _ refl
+  kills_keep n (Some a) = same _ refl
 
   loses_keep : (n : ℕ) (o : Option Attempt) → Keeps (loses_record m n o).machine
-  loses_keep n None = was
-  loses_keep n (Some a) = was
+  loses_keep n None = same _ refl
+  loses_keep n (Some a) = same _ refl
 
   ends_keep : (engine : ℕ) (path : Option (List ℕ)) → Keeps (ends_if_closed setup m engine path).machine
-  ends_keep engine None = was
-  ends_keep engine (Some path) = was
+  ends_keep engine None = same _ refl
+  ends_keep engine (Some path) = same _ refl
 
   switch_keeps : (engine : ℕ) (seen : List (Live Body)) (s : Option Switch) → Keeps (ends_switch setup m engine seen s).machine
-  switch_keeps engine seen None = was
+  switch_keeps engine seen None = same _ refl
   switch_keeps engine seen (Some s) = ends_keep engine (least_open s.begun seen)
 
   aux_keeps : (engine seq : ℕ) (text : List ℕ) (t : Bool) → Keeps (cond t (done (uses m engine seq text) l.Set) (done m l.Absent)).machine
-  aux_keeps engine seq text true = was
-  aux_keeps engine seq text false = was
+  aux_keeps engine seq text true = same _ refl
+  aux_keeps engine seq text false = same _ refl
 
   used_keeps : (engine seq : ℕ) (o : Option (List ℕ)) → Keeps (gets_aux m engine seq o).machine
-  used_keeps engine seq None = was
-  used_keeps engine seq (Some text) = was
+  used_keeps engine seq None = same _ refl
+  used_keeps engine seq (Some text) = same _ refl
 
   pub event_keeps : (event : Event) → Keeps (happens setup fs m event).machine
-  event_keeps (v.Step n) = steps_keep n (attempt_at n m.attempts)
-  event_keeps (v.Miss n) = misses_keep (attempt_at n m.attempts)
+  event_keeps (v.Step n) = steps_keep n (attempt_at n m.attempts) refl
+  event_keeps (v.Miss n) = misses_keep n (attempt_at n m.attempts) refl
   event_keeps (v.Sweep engine) = by_sweep (floor (view m engine))
-  event_keeps v.Cut = cut_keeps
-  event_keeps v.Sync = cut_keeps
+  event_keeps v.Cut = same _ cut_store
+  event_keeps v.Sync = same _ cut_store
   event_keeps (v.Start n path engine) = starts_keep n path engine (attempt_at n m.attempts)
   event_keeps (v.Kill n) = kills_keep n (attempt_at n m.attempts)
   event_keeps (v.Lose n) = loses_keep n (attempt_at n m.attempts)
   event_keeps (v.EndSwitch engine) = switch_keeps engine (view m engine) (modes setup.mode (view m engine)).pending
   event_keeps (v.SetAux engine seq text) = aux_keeps engine seq.0 text (leb 1 seq.0 && leb seq.0 (position m engine))
   event_keeps (v.GetAux engine seq) = used_keeps engine seq.0 (aux_at seq.0 (aux_of m engine))
-  event_keeps _ = was
+  event_keeps _ = same _ refl
+
+-- So what holds of a store, and of what steps, misses and sweeps make of it, holds behind any event.
+module _ (setup : Setup) (fs : List Function) (m : Machine) (P : Store → Type 0) (was : P m.store) (by_step : (a : Attempt) (at : Sent) → P (step setup fs m.store (view m a.engine) at a).store) (by_miss : (a : Attempt) → P (miss setup fs m.store (view m a.engine) a).store) (by_sweep : (n : ℕ) → P (swept n m.store)) where
+  sends_keep : (engine : ℕ) (r : Option (Entry Body)) (n : Machine) → P n.store → P (sends_step setup engine r n).store
+  sends_keep engine None n is = is
+  sends_keep engine (Some r) n is = is
+
+  pub store_keeps : (event : Event) → P (happens setup fs m event).machine.store
+  store_keeps event =
+      event_keeps setup fs m (λ n. P n.store) (λ n e. subst P (sym e) was)
+      (λ n a e.
+      let at = next_sent setup m a.engine in
+      let move = step setup fs m.store (view m a.engine) at a in
+      sends_keep a.engine move.sends (with_attempt n move.attempt (record m { store = move.store })) (by_step a at))
+      (λ n a e. by_miss a) by_sweep event
 
 -- The objects that it began with stay.
 pub run_stays : (setup : Setup) (fs : List Function) (es : List Event) (m : Machine) → (run setup fs es m).machine.store.initial ≡ m.store.initial
 run_stays setup fs [] m = refl
 run_stays setup fs (e ∷ es) m =
     run_stays setup fs es (happens setup fs m e).machine
-    ∙ event_keeps setup fs m (λ s. s.initial ≡ m.store.initial) refl
+    ∙ store_keeps setup fs m (λ s. s.initial ≡ m.store.initial) refl
     (λ a at. (step_stays setup fs a m.store (view m a.engine) at).1) (λ a. miss_stays setup fs a m.store (view m a.engine) (record { shard = 0; local = 0 })) (λ n. refl) e

@@ -1,7 +1,7 @@
 -- A version that is put in changes no decided answer, but for the value of a marker that no attempt has adopted.
-use Rattle.std.proofs.Common.{◌≡◌, ◌⊎◌, inl, inr, ⊎_elim, ℕ, zero, suc, ◌+◌, ◌-◌, ◌<◌, ◌≤◌, Bool, true, false, cond, eqb, leb, ◌&&◌, List, [], ◌∷◌, length, Option, Some, None, refl, sym, ap, ◌∙◌, subst, arith, length-drop}
+use Rattle.std.proofs.Common.{◌≡◌, ◌⊎◌, inl, inr, ⊎_elim, ℕ, zero, suc, ◌+◌, ◌-◌, ◌<◌, ◌≤◌, Bool, true, false, cond, eqb, ◌&&◌, List, [], ◌∷◌, length, Option, Some, None, refl, sym, ap, ◌∙◌, subst, arith, length-drop}
 use Rattle.std.specs.Prelude.{bytes_eq, is_some, drop}
-use Rattle.std.proofs.lemmas.Bool.{leb-true, leb-false, cases_lt}
+use Rattle.std.proofs.lemmas.Bool.{cases_lt}
 use Rattle.lb_base.specs.declared.value.Value.{Value}
 use Rattle.lb_base.specs.declared.value.Mode.{Mode}
 use Rattle.lb_base.specs.declared.value.Mode.TheVariants.{R, W, T}
@@ -21,15 +21,14 @@ use Rattle.boki_model.specs.Writes.{Store, Version, Raised, fence, version, last
 use Rattle.boki_model.proofs.Logs.{upto-upto}
 use Rattle.boki_machine.specs.Attempt.{Attempt}
 use Rattle.boki_machine.specs.Decided.{Point, point, more, asked_at, free_answer, own_answer, and_answer, operated, stepped, oldest, decided, or_none, values_below}
-use Rattle.exactly_once.specs.Sound.{Fits, AllFit, Asks, standing_at}
+use Rattle.exactly_once.specs.Sound.{Fits, Asks, standing_at}
 use Rattle.exactly_once.specs.Steps.{is_step_of}
-use Rattle.exactly_once.specs.Invariant.{World, records, values, marks, marks_by, AreFenced, AllFenced, FencedBehind, MayLog, IsFollowing, IsAmong, Holds}
+use Rattle.exactly_once.specs.Invariant.{World, records, values, marks, marks_by, AreFenced, AllFenced, FencedBehind, MayLog, IsAmong, Holds}
 use Rattle.exactly_once.specs.Versions.{with_version, next_version}
-use Rattle.exactly_once.specs.Kept.{is_marker, IsUnadopted, AnswersStay, all_stay, all_but_one}
-use Rattle.exactly_once.proofs.Tails.{Tail, here, there, shorter}
+use Rattle.exactly_once.specs.Kept.{is_marker, AnswersStay, all_stay, all_but_one}
+use Rattle.exactly_once.proofs.Tails.{Tail, here, shorter}
 use Rattle.exactly_once.proofs.Lives.{live_under}
-use Rattle.exactly_once.proofs.Maps.{same_itself}
-use Rattle.exactly_once.proofs.Points.{stands, Does, does, apart, began, operates, ends, unbegun}
+use Rattle.exactly_once.proofs.Points.{unbegun}
 use Rattle.exactly_once.proofs.SamePlace.{point_apart, marks_apart, same_marks}
 use Rattle.exactly_once.proofs.Frees.{on_most, on_least, none_in_T}
 use Rattle.exactly_once.proofs.Puts.{IsSafe, NotInit, more_kept, standing_other}

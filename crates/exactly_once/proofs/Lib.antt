@@ -63,4 +63,5 @@ pub mod Economy
 pub mod Once
 pub mod Held
 pub mod Kept
+pub mod VersionEvents
 pub mod Laws

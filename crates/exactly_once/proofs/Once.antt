@@ -24,7 +24,7 @@ use Rattle.boki_machine.specs.Machine.{Machine, view, happens, run}
 use Rattle.exactly_once.specs.Held.{Once, is_same_key, is_same_version, is_same_stored}
 use Rattle.exactly_once.proofs.Reported.{less_apart, keys_in_order}
 use Rattle.exactly_once.proofs.Effects.{Effect, leaves, stops, stops_there, fences_keys, puts, names_value, step_effect, miss_effect}
-use Rattle.exactly_once.proofs.Initial.{event_keeps}
+use Rattle.exactly_once.proofs.Initial.{store_keeps}
 
 -- Keys.
 
@@ -126,4 +126,4 @@ module _ (setup : Setup) (fs : List Function) where
   run_once [] m once = once
   run_once (e ∷ es) m once =
       run_once es (happens setup fs m e).machine
-      (event_keeps setup fs m StandOnce once (λ a at. step_once a m.store (view m a.engine) at once) (λ a. miss_once a m.store (view m a.engine) once) (λ n. record { versions = once.versions; named = once.named }) e)
+      (store_keeps setup fs m StandOnce once (λ a at. step_once a m.store (view m a.engine) at once) (λ a. miss_once a m.store (view m a.engine) once) (λ n. record { versions = once.versions; named = once.named }) e)

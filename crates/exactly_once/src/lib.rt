@@ -10,6 +10,7 @@ ghost use Rattle.exactly_once.specs.Exact.{EventsKeep, EventsAreExact, ExactlyOn
 ghost use Rattle.exactly_once.specs.Exclusion.{ModesExclude, FloorsPass};
 ghost use Rattle.exactly_once.specs.Held.{HeldOnce};
 ghost use Rattle.exactly_once.specs.MicroSteps.{MicroStepsKeep};
+ghost use Rattle.exactly_once.specs.Kept.{DecidedStays};
 ghost use Rattle.exactly_once.specs.Laws.{AfterEvents, DuplicatesAgree};
 ghost use Rattle.exactly_once.specs.Moves.{MissesKeep, MovesKeep};
 ghost use Rattle.exactly_once.specs.Names.{NamesKeep};
@@ -128,4 +129,10 @@ pub fn ended_are_economic()
 /// the floor; so of an invocation with its Finish below the floor no named value at all.
 pub fn held_once()
     ensures { AfterEvents HeldOnce }
+{}
+
+/// Decided answers stay: an event that puts in a version orders nothing, and changes no answer that an invocation has decided,
+/// but for the value of a marker, its last step record, that no attempt has adopted.
+pub fn decided_stays()
+    ensures { AfterEvents DecidedStays }
 {}
