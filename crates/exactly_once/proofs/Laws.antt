@@ -9,7 +9,7 @@ use Rattle.exactly_once.specs.Laws.{AfterEvents, DuplicatesAgree, attempts_of}
 use Rattle.exactly_once.proofs.Exact.{run_holds, opens}
 use Rattle.exactly_once.specs.Ended.{EndedAreLeft}
 use Rattle.exactly_once.specs.Economy.{EndedAreEconomic}
-use Rattle.exactly_once.specs.Kept.{DecidedStays}
+use Rattle.exactly_once.specs.Kept.{DecidedAnswersStay}
 use Rattle.exactly_once.proofs.Duplicates.{all_agree}
 use Rattle.exactly_once.proofs.VersionEvents.{event_puts}
 use Rattle.exactly_once.proofs.Economy.{economic}
@@ -38,5 +38,5 @@ module _ (keep : EventsKeep) where
   pub ended_are_economic : AfterEvents EndedAreEconomic
   ended_are_economic = after_events EndedAreEconomic (λ setup fs m good path ended. economic setup fs (world_of m) good.holds path ended)
 
-  pub decided_stays : AfterEvents DecidedStays
-  decided_stays = after_events DecidedStays (λ setup fs m good event v more. event_puts setup fs m good v event more)
+  pub decided_answers_stay : AfterEvents DecidedAnswersStay
+  decided_answers_stay = after_events DecidedAnswersStay (λ setup fs m good event v more. event_puts setup fs m good v event more)

@@ -22,7 +22,7 @@ use Rattle.boki_machine.specs.Decided.{Point, point, more, asked_at}
 use Rattle.exactly_once.specs.Sound.{AreNextWrites, MayStand, StandAt, standing_at, AllFit}
 use Rattle.exactly_once.specs.Steps.{at_place}
 use Rattle.exactly_once.specs.Invariant.{World, records, values, marks, AreFenced, IsStep, IsOfKind, IsAsked, IsOwed, FencedBehind, AllFenced, KnowsStored, KnowsLate, IsFresh, Follows, IsFollowing, Holds}
-use Rattle.exactly_once.specs.Versions.{puts, next_version, VersionsKeep}
+use Rattle.exactly_once.specs.Versions.{puts, next_version, MayPut, VersionsKeep, DecidedReadsStay}
 use Rattle.exactly_once.proofs.Tails.{Tail, here, there, shorter}
 use Rattle.exactly_once.proofs.Each.{each_weaker}
 use Rattle.exactly_once.proofs.Lives.{live_under}
@@ -269,12 +269,25 @@ module _ (setup : Setup) (fs : List Function) (w : World) (holds : Holds setup f
     positions = holds.positions;
   }
 
-pub versions_keep : VersionsKeep
-versions_keep setup fs w a key value holds may = at following.follows
+pub writer_of : (setup : Setup) (fs : List Function) (w : World) (a : Attempt) (key : List ℕ) (value : Value) → Holds setup fs w → MayPut fs w a key value → IsWriter setup fs (values w.store) w.store.fences (records w) a key value
+writer_of setup fs w a key value holds may = at following.follows
   where
     following : IsFollowing setup fs (values w.store) w.store.fences (length w.log) (records w) w.positions a
     following = among_each (IsFollowing setup fs (values w.store) w.store.fences (length w.log) (records w) w.positions) a w.attempts may.among holds.attempts
 
-    at : IsFresh a ⊎ Follows setup fs (values w.store) w.store.fences (upto a.cursor (records w)) a → Holds setup fs (puts (next_version a key value) w)
+    at : IsFresh a ⊎ Follows setup fs (values w.store) w.store.fences (upto a.cursor (records w)) a → IsWriter setup fs (values w.store) w.store.fences (records w) a key value
     at (inl fresh) = absurd (let none = fresh.place in let some = may.begun in let h : ⊥ = omega (arith, none, some) in h)
-    at (inr follows) = put_keeps setup fs w holds a key value (record { follows = follows; mode_is = may.mode; asks = may.asked; new = may.new; unfenced = may.unfenced })
+    at (inr follows) = record { follows = follows; mode_is = may.mode; asks = may.asked; new = may.new; unfenced = may.unfenced }
+
+pub versions_keep : VersionsKeep
+versions_keep setup fs w a key value holds may = put_keeps setup fs w holds a key value (writer_of setup fs w a key value holds may)
+
+-- What was decided stays.
+pub decided_reads_stay : DecidedReadsStay
+decided_reads_stay setup fs w a key value holds may path c fenced =
+    let writer = writer_of setup fs w a key value holds may in
+    let behind = upto c (records w) in
+    record {
+      stands = kept_point setup fs w holds a key value writer path behind (upto_tail c (records w)) fenced;
+      frees = λ n begun long. more_kept (next_version a key value) (values w.store) fs behind path (point setup fs (values w.store) path behind) n (safe_at setup fs w holds a key value writer path behind n (upto_tail c (records w)) begun long);
+    }

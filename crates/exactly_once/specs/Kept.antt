@@ -46,7 +46,7 @@ pub record VersionIsPut (setup : Setup) (fs : List Function) (m n : Machine) : T
   pub log_stays : log n ≡ log m
   pub answers_stay : (path : List ℕ) → AnswersStay setup fs (values m.store) (values n.store) (live_log m) (attempts_of m) path
 
-abbrev pub DecidedStays : Setup → List Function → Machine → Type 0
-DecidedStays setup fs m =
+abbrev pub DecidedAnswersStay : Setup → List Function → Machine → Type 0
+DecidedAnswersStay setup fs m =
     (event : Event) (v : Version) → (happens setup fs m event).machine.store.versions ≡ v ∷ m.store.versions
     → VersionIsPut setup fs m (happens setup fs m event).machine

@@ -1,5 +1,5 @@
 -- A free write may be put in, in any state that the invariant holds of.
-use Rattle.std.specs.Prelude.{◌≡◌, ℕ, suc, ◌≤◌, List, ◌∷◌, Some, None}
+use Rattle.std.specs.Prelude.{◌≡◌, ℕ, suc, ◌+◌, ◌≤◌, true, List, ◌∷◌, length, Some, None}
 use Rattle.lb_base.specs.declared.value.Value.{Value}
 use Rattle.lb_base.specs.declared.value.Mode.TheVariants.{W}
 use Rattle.boki_types.specs.declared.operation.Op.TheVariants as o
@@ -9,7 +9,10 @@ use Rattle.boki_types.specs.declared.program.Function.{Function}
 use Rattle.boki_model.specs.Writes.{Store, Version, version, fence}
 use Rattle.boki_machine.specs.Attempt.{Attempt}
 use Rattle.boki_machine.specs.Step.{asked_by}
-use Rattle.exactly_once.specs.Invariant.{World, IsAmong, Holds}
+use Rattle.boki_types.specs.declared.body.Body.{Body}
+use Rattle.boki_model.specs.Live.{Live, upto}
+use Rattle.boki_machine.specs.Decided.{point, more}
+use Rattle.exactly_once.specs.Invariant.{World, records, values, marks, AreFenced, IsAmong, Holds}
 
 abbrev pub with_version : Version → Store → Store
 with_version v store = record store { versions = v ∷ store.versions }
@@ -36,3 +39,18 @@ abbrev pub VersionsKeep : Type 0
 VersionsKeep =
     (setup : Setup) (fs : List Function) (w : World) (a : Attempt) (key : List ℕ) (value : Value) → Holds setup fs w
     → MayPut fs w a key value → Holds setup fs (puts (next_version a key value) w)
+
+-- What an invocation has decided up to a seqnum stays: where it stands, and its free answers there.
+pub record IsUnmoved (setup : Setup) (fs : List Function) (old new : Store) (behind : List (Live Body)) (path : List ℕ) : Type 0 where
+  pub stands : point setup fs new path behind ≡ point setup fs old path behind
+  pub frees :
+      (n : ℕ) → (point setup fs old path behind).begun ≡ true → length (more fs old behind path (point setup fs old path behind) n) ≡ n + length (point setup fs old path behind).answers
+      → more fs new behind path (point setup fs old path behind) n ≡ more fs old behind path (point setup fs old path behind) n
+
+-- A version put in at an old position changes no decided answer but that of a marker that nobody has adopted: where the marked
+-- reads of an invocation up to a seqnum have their fences, it is unmoved.
+abbrev pub DecidedReadsStay : Type 0
+DecidedReadsStay =
+    (setup : Setup) (fs : List Function) (w : World) (a : Attempt) (key : List ℕ) (value : Value) → Holds setup fs w → MayPut fs w a key value
+    → (path : List ℕ) (c : ℕ) → AreFenced w.store.fences (marks path (upto c (records w)))
+    → IsUnmoved setup fs (values w.store) (values (puts (next_version a key value) w).store) (upto c (records w)) path

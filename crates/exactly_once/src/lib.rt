@@ -10,7 +10,7 @@ ghost use Rattle.exactly_once.specs.Exact.{EventsKeep, EventsAreExact, ExactlyOn
 ghost use Rattle.exactly_once.specs.Exclusion.{ModesExclude, FloorsPass};
 ghost use Rattle.exactly_once.specs.Held.{HeldOnce};
 ghost use Rattle.exactly_once.specs.MicroSteps.{MicroStepsKeep};
-ghost use Rattle.exactly_once.specs.Kept.{DecidedStays};
+ghost use Rattle.exactly_once.specs.Kept.{DecidedAnswersStay};
 ghost use Rattle.exactly_once.specs.Laws.{AfterEvents, DuplicatesAgree};
 ghost use Rattle.exactly_once.specs.Moves.{MissesKeep, MovesKeep};
 ghost use Rattle.exactly_once.specs.Names.{NamesKeep};
@@ -19,7 +19,7 @@ ghost use Rattle.exactly_once.specs.Orders.{OrdersKeep};
 ghost use Rattle.exactly_once.specs.Reported.{ReportsAgree};
 ghost use Rattle.exactly_once.specs.Runs.{SoundRuns};
 ghost use Rattle.exactly_once.specs.Steps.{StepsInOrder};
-ghost use Rattle.exactly_once.specs.Versions.{VersionsKeep};
+ghost use Rattle.exactly_once.specs.Versions.{DecidedReadsStay, VersionsKeep};
 
 /// Of two invocations, one of mode R and one of mode W, the one whose Init comes first has ended before the other begins.
 pub fn modes_exclude()
@@ -133,6 +133,12 @@ pub fn held_once()
 
 /// Decided answers stay: an event that puts in a version orders nothing, and changes no answer that an invocation has decided,
 /// but for the value of a marker, its last step record, that no attempt has adopted.
-pub fn decided_stays()
-    ensures { AfterEvents DecidedStays }
+pub fn decided_answers_stay()
+    ensures { AfterEvents DecidedAnswersStay }
+{}
+
+/// Decided reads stay: a version put in at an old position changes no decided answer but that of a marker that nobody has
+/// adopted.
+pub fn decided_reads_stay()
+    ensures { DecidedReadsStay }
 {}
