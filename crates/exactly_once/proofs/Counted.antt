@@ -23,12 +23,12 @@ use Rattle.exactly_once.specs.Sound.{Asks, Fits, frees_to}
 use Rattle.exactly_once.specs.Invariant.{World, records, values, MayLog, Holds}
 use Rattle.exactly_once.specs.Economy.{is_any, is_read, is_write, picked, how_many, is_write_of}
 use Rattle.exactly_once.proofs.Tails.{Tail}
-use Rattle.exactly_once.proofs.Lives.{live_under, upto_whole}
+use Rattle.exactly_once.proofs.Lives.{live_under, upto_whole, under_tail}
 use Rattle.exactly_once.proofs.Maps.{same_itself}
 use Rattle.exactly_once.proofs.Points.{stands, cursor_within}
 use Rattle.exactly_once.proofs.SamePlace.{same_more, cursor_upto}
 use Rattle.exactly_once.proofs.Frees.{on, IsNext, next_decided, IsRead, reads, reads_all, is_read as is_read_free}
-use Rattle.exactly_once.proofs.Histories.{under_at, upto_at, fit_tail}
+use Rattle.exactly_once.proofs.Histories.{upto_at, fit_tail}
 use Rattle.exactly_once.proofs.OpenTransactions.{same_step}
 use Rattle.exactly_once.proofs.Origins.{IsLogged, origin}
 use Rattle.exactly_once.proofs.Cursors.{is_there}
@@ -138,7 +138,7 @@ module _ (setup : Setup) (fs : List Function) (w : World) (holds : Holds setup f
   -- what it asks here was asked where the record was sent, so that it may be logged
   pub may : (ask : Ask) → Asks fs store xs p st i ask → MayLog w.store.fences st.mode st.cursor ask
   may ask asks =
-      let u = under_at x xs (length w.log) now (live_under w.log) tail in
+      let u = under_tail (x ∷ xs) (length w.log) now (live_under w.log) tail in
       let from = origin setup fs w holds x xs p i tail step in
       let behind : upto u.0 now ≡ xs =
       sym (upto-upto u.0 x.seq now (let e = u.1 in omega (arith, e))) ∙ ap (upto u.0) (upto_at x xs (length w.log) now (live_under w.log) tail) ∙ upto_skip u.0 x xs (let e = u.1 in omega (arith, e)) ∙ upto_whole u.0 u.0 xs u.3 (omega arith) in

@@ -23,12 +23,12 @@ use Rattle.exactly_once.specs.Steps.{is_step_of, steps_of}
 use Rattle.exactly_once.specs.Invariant.{World, records, values, MayLog, Holds}
 use Rattle.exactly_once.specs.Economy.{AllNumbered, is_any, is_write, picked, how_many, is_write_of, writes_in, versions_in, WasLate, WereLate, IsEconomic}
 use Rattle.exactly_once.proofs.Tails.{Tail, here, there, shorter, longer}
-use Rattle.exactly_once.proofs.Lives.{live_under}
+use Rattle.exactly_once.proofs.Lives.{live_under, under_tail}
 use Rattle.exactly_once.proofs.Maps.{same_itself, same_key}
 use Rattle.exactly_once.proofs.Points.{stands, Does, does, apart, began, operates, ends, unbegun, result_is}
 use Rattle.exactly_once.proofs.SamePlace.{no_own_step, place_is}
 use Rattle.exactly_once.proofs.Frees.{on, long_reaches}
-use Rattle.exactly_once.proofs.Histories.{fit_tail, under_at, stands_on}
+use Rattle.exactly_once.proofs.Histories.{fit_tail, stands_on}
 use Rattle.exactly_once.proofs.FreeTurns.{stand_numbered}
 use Rattle.exactly_once.proofs.Cursors.{none_next}
 use Rattle.exactly_once.proofs.Counted.{is_no_read, is_no_write, any_more, reads_more, others_more, writes_more, none_more, IsOperation, is_operation, may, asks_at}
@@ -250,7 +250,7 @@ module _ (setup : Setup) (fs : List Function) (w : World) (holds : Holds setup f
   next_absent xs t begun unended mode key =
       let on = stands_on setup fs store p xs (fit_at xs t) begun in
       let tail_on = longer on.tail t in
-      let u = under_at on.on on.behind (length w.log) now (live_under w.log) tail_on in
+      let u = under_tail (on.on ∷ on.behind) (length w.log) now (live_under w.log) tail_on in
       let same = on.same in
       subst (λ c. version key c (suc (versions_at c store.versions)) store.versions ≡ None) on.seq_is
       (none_next setup fs store p on.on.seq (on.on ∷ on.behind) (u.0, u.1, (let e = u.1 in omega (arith, e)), u.3) (fit_at (on.on ∷ on.behind) tail_on)

@@ -27,12 +27,12 @@ use Rattle.exactly_once.specs.Invariant.{World, records, values, marks, marks_by
 use Rattle.exactly_once.specs.Versions.{with_version, next_version}
 use Rattle.exactly_once.specs.Kept.{is_marker, AnswersStay, all_stay, all_but_one}
 use Rattle.exactly_once.proofs.Tails.{Tail, here, shorter}
-use Rattle.exactly_once.proofs.Lives.{live_under}
+use Rattle.exactly_once.proofs.Lives.{live_under, under_tail}
 use Rattle.exactly_once.proofs.Points.{unbegun}
 use Rattle.exactly_once.proofs.SamePlace.{point_apart, marks_apart, same_marks}
 use Rattle.exactly_once.proofs.Frees.{on_most, on_least, none_in_T}
 use Rattle.exactly_once.proofs.Puts.{IsSafe, NotInit, more_kept, standing_other}
-use Rattle.exactly_once.proofs.Histories.{fit_tail, under_at, upto_at, upto_tail}
+use Rattle.exactly_once.proofs.Histories.{fit_tail, upto_at, upto_tail}
 use Rattle.exactly_once.proofs.Recorded.{step_is}
 use Rattle.exactly_once.proofs.Writers.{IsWriter, is_its, on_tail, on_seq, stood}
 use Rattle.exactly_once.proofs.LastCursor.{no_later}
@@ -229,7 +229,7 @@ module _ (setup : Setup) (fs : List Function) (w : World) (holds : Holds setup f
   its_cursor =
       let under = live_under w.log in
       let on = stood setup fs Old Fences (length w.log) Now under holds.sound t key value writer in
-      let u = under_at on.on on.behind (length w.log) Now under (on_tail setup fs Old Fences (length w.log) Now under holds.sound t key value writer) in
+      let u = under_tail (on.on ∷ on.behind) (length w.log) Now under (on_tail setup fs Old Fences (length w.log) Now under holds.sound t key value writer) in
       let e = on_seq setup fs Old Fences (length w.log) Now under holds.sound t key value writer in
       let first = u.1 in omega (arith, first, e)
 
@@ -283,7 +283,7 @@ module _ (setup : Setup) (fs : List Function) (w : World) (holds : Holds setup f
     unadopted b among path = at (cases_lt b.cursor one.x.seq)
       where
         under_x : 0 < one.x.seq
-        under_x = let u = under_at one.x one.behind (length w.log) Now (live_under w.log) one.tail in let first = u.1 in omega (arith, first)
+        under_x = let u = under_tail (one.x ∷ one.behind) (length w.log) Now (live_under w.log) one.tail in let first = u.1 in omega (arith, first)
 
         behind_b : one.x.seq ≤ b.cursor → Tail (one.x ∷ one.behind) (upto b.cursor Now)
         behind_b le =

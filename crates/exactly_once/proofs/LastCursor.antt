@@ -23,7 +23,7 @@ use Rattle.exactly_once.proofs.Maps.{same_itself}
 use Rattle.exactly_once.proofs.Exclusion.{tails_exclude, ended_later}
 use Rattle.exactly_once.proofs.Points.{stands, cursor_within, result_is}
 use Rattle.exactly_once.proofs.SamePlace.{IsSamePlace, same_point, skipped}
-use Rattle.exactly_once.proofs.Histories.{compare_tails, upto_tail, under_at, not_leb, one_record, fit_tail, HasInit, has_init, ended_stays}
+use Rattle.exactly_once.proofs.Histories.{compare_tails, upto_tail, not_leb, one_record, fit_tail, HasInit, has_init, ended_stays}
 use Rattle.exactly_once.proofs.Origins.{origin}
 use Rattle.exactly_once.proofs.Recorded.{step_is as step_is_at}
 use Rattle.exactly_once.proofs.Writers.{IsWriter, its, its_mode, logs_apart}
@@ -132,7 +132,7 @@ module _ (setup : Setup) (fs : List Function) (w : World) (holds : Holds setup f
 
       ended_first : hq.init.seq < hp.init.seq → (stands setup fs store q ys).cursor < a.cursor
       ended_first lt =
-          let u = under_at hp.init hp.behind n now under tp in
+          let u = under_tail (hp.init ∷ hp.behind) n now under tp in
           let r = tails_by_seq hq.init hp.init hq.behind hp.behind n now under tq tp lt in
           let ended = tails_exclude setup.mode q R W hq.init hq.behind hp.behind u.0 hq.holds_is u.3 mode_q mode_p tt r in
           let low = hp.low in
@@ -147,7 +147,7 @@ module _ (setup : Setup) (fs : List Function) (w : World) (holds : Holds setup f
 
       ended_other : hp.init.seq < hq.init.seq → ⊥
       ended_other lt =
-          let u = under_at hq.init hq.behind n now under tq in
+          let u = under_tail (hq.init ∷ hq.behind) n now under tq in
           let r = tails_by_seq hp.init hq.init hp.behind hq.behind n now under tp tq lt in
           let ended = ended_later a.path hq.behind now (shorter tq) (tails_exclude setup.mode a.path W R hp.init hp.behind hq.behind u.0 hp.holds_is u.3 mode_p mode_q tt r) in
           let no_way : false ≡ true = ap is_some (sym unended_now) ∙ ended in cc
