@@ -27,8 +27,7 @@ use Rattle.boki_machine.specs.Decided.{Point, asked_at, more}
 use Rattle.boki_machine.specs.Step.{asked_by}
 use Rattle.exactly_once.specs.Sound.{frees_to, AllFit}
 use Rattle.exactly_once.specs.Steps.{has_paths, IsOwn}
-use Rattle.exactly_once.specs.Invariant.{World, records, values, position_of, MayLog, Logs, Follows, IsFollowing, IsAsked, IsAmong, Holds}
-use Rattle.exactly_once.proofs.Each.{each_weaker}
+use Rattle.exactly_once.specs.Invariant.{World, records, values, position_of, MayLog, Logs, Follows, IsFollowing, IsAmong, Holds}
 use Rattle.exactly_once.proofs.Lives.{Under, live_under}
 use Rattle.exactly_once.proofs.Maps.{same_key}
 use Rattle.exactly_once.proofs.Steps.{child_path}
@@ -101,12 +100,6 @@ pub no_write : (ask : Ask) → is_plain ask ≡ true → (key : List ℕ) (value
 no_write ask plain key value is = let no_way : true ≡ false = sym plain ∙ ap is_plain is in cc
 
 module _ (setup : Setup) (fs : List Function) (w : World) (holds : Holds setup fs w) where
-  pub asked_all : (r : Entry Body) → IsAmong r w.sent → IsAsked setup fs (values w.store) w.store.fences (length w.log) (records w) r
-  asked_all r is = among_each (IsAsked setup fs (values w.store) w.store.fences (length w.log) (records w)) r w.sent is holds.sent
-
-  pub own_log : AllByRecursion IsOwn w.log
-  own_log = each_weaker (λ r. IsAmong r w.sent) IsOwn (λ r is. (asked_all r is).own) w.log holds.ordered
-
   module _ (a : Attempt) where
     abbrev pub engine_at : ℕ
     engine_at = position_of w.positions a.engine

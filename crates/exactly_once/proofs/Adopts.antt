@@ -31,7 +31,8 @@ use Rattle.exactly_once.proofs.Events.{following_as}
 use Rattle.exactly_once.proofs.OpenTransactions.{same_step}
 use Rattle.exactly_once.proofs.Recorded.{IsTagged, all_tagged, IsRecorded, point_same, marks_same, more_same}
 use Rattle.exactly_once.proofs.Views.{raised_marks}
-use Rattle.exactly_once.proofs.Acting.{own_log, engine_at, within_log, following, up_to, at_point}
+use Rattle.exactly_once.proofs.Origins.{own_log}
+use Rattle.exactly_once.proofs.Acting.{engine_at, within_log, following, up_to, at_point}
 
 pub no_frees : (mode : Mode) → Counts mode 0 0
 no_frees R = refl

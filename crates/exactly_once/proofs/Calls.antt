@@ -22,10 +22,9 @@ use Rattle.boki_machine.specs.Turns.{until, turn_of}
 use Rattle.boki_machine.specs.Ideal.{Invocation, Ideal, invoked, running, unless_ended, submitted, with_invocation, go, ideal}
 use Rattle.boki_machine.specs.Ideal as ideal
 use Rattle.boki_model.proofs.KeyMaps.{get-put_same}
-use Rattle.exactly_once.specs.Sound.{Asks, MaySubmit, MayBegin, standing_at, MayStand, AllFit}
+use Rattle.exactly_once.specs.Sound.{Asks, MaySubmit, MayBegin, standing_at, MayStand, AllFit, AreNumbered}
 use Rattle.exactly_once.proofs.Lives.{Under}
 use Rattle.exactly_once.proofs.Maps.{same_itself, get_other}
-use Rattle.exactly_once.proofs.Positions.{Numbered}
 use Rattle.exactly_once.proofs.Stages.{stage_before, stage_other, stage_end}
 use Rattle.exactly_once.proofs.Points.{stands, cursor_within, unbegun, uncalled, is_called, still_called, IsCalled}
 use Rattle.exactly_once.proofs.Goes.{AreLast, others_put, by_key, go_start}
@@ -45,11 +44,11 @@ module _ (setup : Setup) (fs : List Function) (store : Store) where
     pub objects_end : (objects : List (List ℕ × Value)) → AreLast store (x ∷ xs) x.seq 1 objects → AreLast store (x ∷ xs) (suc x.seq) 0 objects
     objects_end objects are key =
         are key ∙ ap (λ (l : List Version). last key x.seq (suc (length l)) store (x ∷ xs)) (sym none)
-        ∙ stage_end store x xs m is_seq under (subst Numbered (sym none) tt) key
+        ∙ stage_end store x xs m is_seq under (subst AreNumbered (sym none) tt) key
 
     pub objects_quiet : (objects : List (List ℕ × Value)) → ((key : List ℕ) → if_key key x.seq store.named (logged_write x.holds) ≡ None) → AreLast store xs x.seq 0 objects → AreLast store (x ∷ xs) (suc x.seq) 0 objects
     objects_quiet objects no_write are =
-        objects_end objects (λ key. are key ∙ stage_before store x xs m is_seq under (subst Numbered (sym none) tt) key ∙ stage_other store x xs m is_seq under (subst Numbered (sym none) tt) key (no_write key))
+        objects_end objects (λ key. are key ∙ stage_before store x xs m is_seq under (subst AreNumbered (sym none) tt) key ∙ stage_other store x xs m is_seq under (subst AreNumbered (sym none) tt) key (no_write key))
 
     -- a record that gives no turn
     pub quiet : (ahead : List (List ℕ × ℕ)) (s : Ideal) → AllFit setup fs store xs → step_of x.holds ≡ None → ((key : List ℕ) → if_key key x.seq store.named (logged_write x.holds) ≡ None) → ((q : List ℕ) → call_in q x.holds ≡ None) → commits (x ∷ xs) ≡ commits xs → queues (x ∷ xs) ≡ queues xs → Agrees setup fs store ahead x.seq xs s → Agrees setup fs store ahead (suc x.seq) (x ∷ xs) s

@@ -14,18 +14,18 @@ use Rattle.boki_types.specs.declared.operation.Answer.{Answer}
 use Rattle.boki_types.specs.declared.operation.Answer.TheVariants as a
 use Rattle.boki_types.specs.declared.plan.Setup.{Setup}
 use Rattle.boki_types.specs.declared.program.Function.{Function}
-use Rattle.boki_model.specs.Live.{Live}
-use Rattle.boki_model.specs.Bodies.{step_of}
-use Rattle.boki_model.specs.Writes.{Store, Version, Raised, version, versions_at, has_version}
+use Rattle.boki_model.specs.Live.{Live, upto}
+use Rattle.boki_model.specs.Writes.{Store, Version, Raised, version, versions_at}
 use Rattle.boki_machine.specs.Decided.{Point, asked_at, free_answer}
-use Rattle.exactly_once.specs.Sound.{AreNextWrites, MayStand, StandAt, frees_to, standing_at, AllFit}
+use Rattle.exactly_once.specs.Sound.{AreNextWrites, MayStand, StandAt, frees_to, standing_at, AllFit, AreNumbered}
 use Rattle.exactly_once.specs.Invariant.{MayLog, Logs}
 use Rattle.exactly_once.proofs.Tails.{Tail, here, there}
 use Rattle.exactly_once.proofs.Each.{each_weaker}
-use Rattle.exactly_once.proofs.Lives.{Under}
-use Rattle.exactly_once.proofs.Positions.{Numbered, numbered_within, numbered_once, At, at_of, found_version}
-use Rattle.exactly_once.proofs.Points.{stands, Does, does, apart, began, operates, ends, cursor_within}
+use Rattle.exactly_once.proofs.Lives.{Under, upto_whole}
+use Rattle.exactly_once.proofs.Positions.{numbered_within, numbered_once, At, at_of, found_version}
+use Rattle.exactly_once.proofs.Points.{stands}
 use Rattle.exactly_once.proofs.Frees.{on, IsNext, next_decided, long_reaches, is_read, IsRead, reads, reads_all}
+use Rattle.exactly_once.proofs.Histories.{upto_at, fit_tail, stands_on}
 use Rattle.exactly_once.proofs.FreeTurns.{stand_numbered}
 
 -- What is decided so far, was decided before.
@@ -91,6 +91,21 @@ version_within key c j most (v ∷ vs) each found = at (version_within key c j m
         let same : j ≡ v.k = eqb-true j v.k parts.1 in omega (arith, le, same)
     at ih false e found = ih found
 
+-- a free operation of the mode W is a write whose version is there
+pub record IsThere (store : Store) (c j : ℕ) (ask : Option Ask) (answer : Answer) : Type 0 where
+  pub key : List ℕ
+  pub value : Value
+  pub asks : ask ≡ Some (k.Op (o.Write key value))
+  pub there_is : is_some (version key c (suc j) store.versions) ≡ true
+
+pub is_there : (store : Store) (records : List (Live Body)) (c j : ℕ) (ask : Option Ask) (answer : Answer) → free_answer store records c j W ask ≡ Some answer → IsThere store c j ask answer
+is_there store records c j (Some (k.Op (o.Write key value))) answer e = record { key = key; value = value; asks = refl; there_is = at (is_some (version key c (suc j) store.versions)) e }
+  where
+    at : (b : Bool) → cond b (Some a.Done) None ≡ Some answer → b ≡ true
+    at true e = refl
+    at false e = cc
+is_there store records c j _ answer e = let no_way : None ≡ Some answer = e in cc
+
 -- the version of a number
 record IsVersion (n : ℕ) (vs : List Version) : Type 0 where
   pub v : Version
@@ -107,63 +122,47 @@ next_at fs store xs p st v rest vs here are = are
 next_at fs store xs p st v rest (u ∷ vs) (there t) are = next_at fs store xs p st v rest vs t are.2
 
 module _ (setup : Setup) (fs : List Function) (store : Store) (p : List ℕ) (c : ℕ) where
-  pub record IsHead (xs : List (Live Body)) : Type 0 where
-    pub x : Live Body
-    pub rest : List (Live Body)
-    pub is : xs ≡ x ∷ rest
-    pub seq_is : x.seq ≡ c
-    pub index : ℕ
-    pub step : ◌≡◌ {A = Option (List ℕ × ℕ)} (step_of x.holds) (Some (p, index))
-
-  pub head : (xs : List (Live Body)) → Under c xs → AllFit setup fs store xs → (stands setup fs store p xs).begun ≡ true → (stands setup fs store p xs).cursor ≡ c → IsHead xs
-  head [] under fit begun cursor = let no_way : false ≡ true = begun in cc
-  head (x ∷ xs) under fit begun cursor = at (stands setup fs store p (x ∷ xs)) cursor (does setup fs store x xs p fit.0)
-    where
-      at : (next : Point) → next.cursor ≡ c → Does setup fs store x.seq x.holds xs p next → IsHead (x ∷ xs)
-      at next cursor (apart other finish is) =
-          absurd (let le = cursor_within setup fs store under.0 xs p under.3 fit.2 in let e : (stands setup fs store p xs).cursor ≡ c = ap (λ (st : Point). st.cursor) (sym is) ∙ cursor in let no_way : ⊥ = omega (arith, le, e, under.2) in no_way)
-      at next cursor (began body may is) = record { x = x; rest = xs; is = refl; seq_is = ap (λ (st : Point). st.cursor) (sym is) ∙ cursor; index = 1; step = ap step_of body }
-      at next cursor (operates i step finish reaches is) = record { x = x; rest = xs; is = refl; seq_is = ap (λ (st : Point). st.cursor) (sym is) ∙ cursor; index = i; step = step }
-      at next cursor (ends i outcome body asks is) = record { x = x; rest = xs; is = refl; seq_is = ap (λ (st : Point). st.cursor) (sym is) ∙ cursor; index = i; step = ap step_of body }
-
   module _ (xs : List (Live Body)) (under : Under c xs) (fit : AllFit setup fs store xs) (begun : (stands setup fs store p xs).begun ≡ true) (unended : (stands setup fs store p xs).result ≡ None) (cursor : (stands setup fs store p xs).cursor ≡ c) where
     abbrev st : Point
     st = stands setup fs store p xs
 
     stand_here : MayStand fs store xs p st None st.mode (standing_at c store.versions)
     stand_here =
-        let h : IsHead xs = head xs under fit begun cursor in
-        let fit_there : AllFit setup fs store (h.x ∷ h.rest) = subst (AllFit setup fs store) h.is fit in
-        let one : StandAt setup fs store (h.x ∷ h.rest) (Some (p, h.index)) (standing_at h.x.seq store.versions) = subst (λ s. StandAt setup fs store (h.x ∷ h.rest) s (standing_at h.x.seq store.versions)) h.step fit_there.1 in
-        let two : StandAt setup fs store xs (Some (p, h.index)) (standing_at h.x.seq store.versions) = subst (λ xs. StandAt setup fs store xs (Some (p, h.index)) (standing_at h.x.seq store.versions)) (sym h.is) one in
-        let three : MayStand fs store xs p st st.result st.mode (standing_at c store.versions) = subst (λ c. MayStand fs store xs p st st.result st.mode (standing_at c store.versions)) h.seq_is two in
+        let on = stands_on setup fs store p xs fit begun in
+        let seq_is : on.on.seq ≡ c = on.seq_is ∙ cursor in
+        let whole : on.on ∷ on.behind ≡ xs = sym (upto_at on.on on.behind c xs under on.tail) ∙ ap (λ c. upto c xs) seq_is ∙ upto_whole c c xs under (omega arith) in
+        let one : StandAt setup fs store (on.on ∷ on.behind) (Some (p, on.index)) (standing_at on.on.seq store.versions) =
+        subst (λ s. StandAt setup fs store (on.on ∷ on.behind) s (standing_at on.on.seq store.versions)) on.step (fit_tail setup fs store (on.on ∷ on.behind) xs on.tail fit).1 in
+        let two : StandAt setup fs store xs (Some (p, on.index)) (standing_at on.on.seq store.versions) = subst (λ xs. StandAt setup fs store xs (Some (p, on.index)) (standing_at on.on.seq store.versions)) whole one in
+        let three : MayStand fs store xs p st st.result st.mode (standing_at c store.versions) = subst (λ c. MayStand fs store xs p st st.result st.mode (standing_at c store.versions)) seq_is two in
         subst (λ r. MayStand fs store xs p st r st.mode (standing_at c store.versions)) unended three
 
-    numbered_here : Numbered (standing_at c store.versions)
+    numbered_here : AreNumbered (standing_at c store.versions)
     numbered_here = stand_numbered fs store xs p st None st.mode (standing_at c store.versions) stand_here
 
     module _ (mode : st.mode ≡ W) where
-      next_writes : AreNextWrites fs store xs p st (standing_at c store.versions)
+      pub next_writes : AreNextWrites fs store xs p st (standing_at c store.versions)
       next_writes = subst (λ m. MayStand fs store xs p st None m (standing_at c store.versions)) mode stand_here
 
       within : At c (λ v. v.k ≤ versions_at c store.versions) store.versions
       within = at_of c (λ v. v.k ≤ versions_at c store.versions) store.versions
           (each_weaker (λ (v : Version). (0 < v.k) × (v.k ≤ versions_at c store.versions)) (λ (v : Version). v.k ≤ versions_at c store.versions) (λ v h. h.1) (standing_at c store.versions) (numbered_within (standing_at c store.versions) numbered_here))
 
-      -- at most as many operations are free as there are versions
-      is_there : (n : ℕ) (ask : Option Ask) (x : Answer) → free_answer store xs st.cursor n W ask ≡ Some x → suc n ≤ versions_at c store.versions
-      is_there n (Some (k.Op (o.Write key value))) x e = at (has_version key st.cursor (suc n) store) refl e
+      -- the next number has no version
+      pub none_next : (key : List ℕ) → version key c (suc (versions_at c store.versions)) store.versions ≡ None
+      none_next key = at (version key c (suc (versions_at c store.versions)) store.versions) refl
         where
-          at : (t : Bool) → has_version key st.cursor (suc n) store ≡ t → cond t (Some a.Done) None ≡ Some x → suc n ≤ versions_at c store.versions
-          at true f e = version_within key c (suc n) (versions_at c store.versions) store.versions within (ap (λ c. is_some (version key c (suc n) store.versions)) (sym cursor) ∙ f)
-          at false f e = cc
-      is_there n _ x e = cc
+          at : (o : Option Value) → version key c (suc (versions_at c store.versions)) store.versions ≡ o → o ≡ None
+          at None e = refl
+          at (Some v) e = absurd (let le = version_within key c (suc (versions_at c store.versions)) (versions_at c store.versions) store.versions within (ap is_some e) in let no_way : ⊥ = omega (arith, le) in no_way)
 
+      -- at most as many operations are free as there are versions
       pub frees_most : (n : ℕ) → length (on fs store xs p st n) ≡ n + length st.answers → n ≤ versions_at c store.versions
       frees_most zero long = omega arith
       frees_most (suc n) long =
           let next : IsNext fs store xs p st n = next_decided fs store xs p st n long in
-          is_there n (asked_at fs p st (on fs store xs p st n)) next.answer (ap (λ m. free_answer store xs st.cursor n m (asked_at fs p st (on fs store xs p st n))) (sym mode) ∙ next.free)
+          let t = is_there store xs st.cursor n (asked_at fs p st (on fs store xs p st n)) next.answer (ap (λ m. free_answer store xs st.cursor n m (asked_at fs p st (on fs store xs p st n))) (sym mode) ∙ next.free) in
+          version_within t.key c (suc n) (versions_at c store.versions) store.versions within (ap (λ c. is_some (version t.key c (suc n) store.versions)) (sym cursor) ∙ t.there_is)
 
       -- where the next operation is no write whose version is there, they are all free operations
       pub all_free : (free : ℕ) (ask : Ask) → length (on fs store xs p st free) ≡ free + length st.answers → asked_at fs p st (on fs store xs p st free) ≡ Some ask

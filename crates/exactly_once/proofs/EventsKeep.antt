@@ -39,7 +39,7 @@ use Rattle.exactly_once.proofs.Engines.{step_stays, seen_set, seen_all, seen_oth
 
 -- Lists of attempts.
 
-found_among : (n : ℕ) (a : Attempt) (xs : List Numbered) → attempt_at n xs ≡ Some a → IsAmong a (map (λ x. x.attempt) xs)
+pub found_among : (n : ℕ) (a : Attempt) (xs : List Numbered) → attempt_at n xs ≡ Some a → IsAmong a (map (λ x. x.attempt) xs)
 found_among n a [] found = cc
 found_among n a (x ∷ xs) found = at (found_among n a xs) (eqb n x.number) found
   where

@@ -12,8 +12,8 @@ use Rattle.boki_model.specs.Maps.{before}
 use Rattle.boki_model.specs.Modes.{Switch, Modes, same_mode, init_path, finish_of, result_of, open_path, lesser, least_open_in, least_open, all_ended, begins_switch, ends_switch, switched, modes, mode_with, mode_behind}
 use Rattle.boki_model.specs.Floor.{counted, floor}
 use Rattle.exactly_once.specs.Exclusion.{IsEnded, AreApart, ModesExclude, FloorsPass}
-use Rattle.exactly_once.proofs.Tails.{Tail, here, there}
-use Rattle.exactly_once.proofs.Lives.{Under, under_behind, live_under, IsAt, at_some, tail_below, tails_by_seq}
+use Rattle.exactly_once.proofs.Tails.{Tail, here, there, shorter}
+use Rattle.exactly_once.proofs.Lives.{Under, under_tail, live_under, IsAt, at_some, tail_below, tails_by_seq}
 
 none_is : {X : Type 0} (o : Option X) → is_some o ≡ false → o ≡ None
 none_is None e = refl
@@ -147,7 +147,7 @@ modes_exclude first log p q i j m n one two apart lt =
     let other : IsAt (length log) j (live log) (b.Init q) = at_some (length log) j (live log) (b.Init q) under two.init in
     let t = tails_by_seq init.record_there other.record_there init.behind other.behind (length log) (live log) under init.tail other.tail (omega (arith, lt, init.seq_is, other.seq_is)) in
     subst (IsEnded p) (sym other.below)
-    (tails_exclude first p m n init.record_there init.behind other.behind (length log) init.holds_is (under_behind other.record_there other.behind (length log) (live log) under other.tail)
+    (tails_exclude first p m n init.record_there init.behind other.behind (length log) init.holds_is (under_tail other.behind (length log) (live log) under (shorter other.tail))
     (ap (mode_behind first) (sym init.below) ∙ one.mode_is) (ap (mode_behind first) (sym other.below) ∙ two.mode_is) apart t)
 
 -- the floor is at most the newest seqnum
@@ -180,7 +180,7 @@ below_counted (b.Trim w) seq x behind xs p t holds lt = at (leb w seq) (all_ende
     at false d all lt = absurd (omega arith)
 below_counted _ seq x behind xs p t holds lt = absurd (omega arith)
 
-below_floor : (x : Live Body) (behind : List (Live Body)) (n : ℕ) (xs : List (Live Body)) (p : List ℕ) → Under n xs → Tail (x ∷ behind) xs → x.holds ≡ b.Init p → x.seq < floor xs → IsEnded p xs
+pub below_floor : (x : Live Body) (behind : List (Live Body)) (n : ℕ) (xs : List (Live Body)) (p : List ℕ) → Under n xs → Tail (x ∷ behind) xs → x.holds ≡ b.Init p → x.seq < floor xs → IsEnded p xs
 below_floor x behind n xs p under here holds lt =
     let none : counted x.holds x.seq behind ≡ 0 = ap (λ body. counted body x.seq behind) holds in
     absurd (let h : ⊥ = omega (arith, lt, none, floor_within under.0 behind under.3, under.1) in h)

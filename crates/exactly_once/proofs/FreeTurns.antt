@@ -12,10 +12,9 @@ use Rattle.boki_model.specs.Live.{Live}
 use Rattle.boki_model.specs.Writes.{Store, Version, version, last}
 use Rattle.boki_machine.specs.Decided.{Point, asked_at, or_none, values_below, free_answer}
 use Rattle.boki_machine.specs.Ideal.{Invocation, Ideal, Dirty}
-use Rattle.exactly_once.specs.Sound.{standing_at, AreNextWrites, MayStand}
+use Rattle.exactly_once.specs.Sound.{standing_at, AreNextWrites, MayStand, AreNumbered}
 use Rattle.exactly_once.proofs.Tails.{Tail, here, shorter}
 use Rattle.exactly_once.proofs.Lives.{Under}
-use Rattle.exactly_once.proofs.Positions.{Numbered}
 use Rattle.exactly_once.proofs.Frees.{on, IsNext, next_decided, is_read, IsRead, reads, reads_all, AreFound, writes_long, IsWritten, is_written}
 use Rattle.exactly_once.proofs.Stages.{is_found, stage_version, stage_others, stage_end}
 use Rattle.exactly_once.proofs.Goes.{Gone, moved_to, answering, go_answer, go_write}
@@ -26,20 +25,20 @@ abbrev pub running_at : Point → List Answer → Option Dirty → Invocation
 running_at st l transaction = record { function = st.function; args = st.args; answers = l; result = None; transaction = transaction }
 
 -- the versions at a record are numbered from 1
-next_numbered : (fs : List Function) (store : Store) (records : List (Live Body)) (p : List ℕ) (st : Point) (vs : List Version) → AreNextWrites fs store records p st vs → Numbered vs
+next_numbered : (fs : List Function) (store : Store) (records : List (Live Body)) (p : List ℕ) (st : Point) (vs : List Version) → AreNextWrites fs store records p st vs → AreNumbered vs
 next_numbered fs store records p st [] are = tt
 next_numbered fs store records p st (v ∷ vs) are = (are.0, next_numbered fs store records p st vs are.2)
 
-none_numbered : (vs : List Version) → vs ≡ [] → Numbered vs
-none_numbered vs none = subst Numbered (sym none) tt
+none_numbered : (vs : List Version) → vs ≡ [] → AreNumbered vs
+none_numbered vs none = subst AreNumbered (sym none) tt
 
-pub stand_numbered : (fs : List Function) (store : Store) (records : List (Live Body)) (p : List ℕ) (st : Point) (result : Option Outcome) (mode : Mode) (vs : List Version) → MayStand fs store records p st result mode vs → Numbered vs
+pub stand_numbered : (fs : List Function) (store : Store) (records : List (Live Body)) (p : List ℕ) (st : Point) (result : Option Outcome) (mode : Mode) (vs : List Version) → MayStand fs store records p st result mode vs → AreNumbered vs
 stand_numbered fs store records p st None W vs stand = next_numbered fs store records p st vs stand
 stand_numbered fs store records p st None R vs stand = none_numbered vs stand
 stand_numbered fs store records p st None T vs stand = none_numbered vs stand
 stand_numbered fs store records p st (Some outcome) mode vs stand = none_numbered vs stand
 
-module _ (fs : List Function) (store : Store) (x : Live Body) (xs : List (Live Body)) (m : ℕ) (is_seq : x.seq ≡ suc m) (under : Under m xs) (numbered : Numbered (standing_at x.seq store.versions)) where
+module _ (fs : List Function) (store : Store) (x : Live Body) (xs : List (Live Body)) (m : ℕ) (is_seq : x.seq ≡ suc m) (under : Under m xs) (numbered : AreNumbered (standing_at x.seq store.versions)) where
   module _ (p : List ℕ) (others : List ℕ → Option Invocation) (queues : List (List ℕ × List Value)) (names : List (List ℕ × Value)) (st : Point) (cursor : st.cursor ≡ x.seq) (transaction : Option Dirty) (s0 : Ideal) (own : ℕ) where
     abbrev Comes : ℕ → ℕ → ℕ → ℕ → Type 0
     Comes n k c l = Gone fs store (x ∷ xs) p others queues names s0 n (running_at st (on fs store (x ∷ xs) p st k) transaction) c l
@@ -75,14 +74,14 @@ module _ (fs : List Function) (store : Store) (x : Live Body) (xs : List (Live B
             (goes.reads_all fs store (x ∷ xs) p others queues names gone.state (running_at st (on fs store (x ∷ xs) p st k) transaction) (suc x.seq) keys gone.is.objects asked)))
 
     -- the versions at the cursor
-    found_all : (vs : List Version) → Tail vs (standing_at x.seq store.versions) → Numbered vs → AreFound store st.cursor vs
+    found_all : (vs : List Version) → Tail vs (standing_at x.seq store.versions) → AreNumbered vs → AreFound store st.cursor vs
     found_all [] t num = tt
     found_all (v ∷ vs) t num = (ap (λ c. version v.key c v.k store.versions) cursor ∙ is_found store x xs m is_seq under numbered v vs t num.0, found_all vs (shorter t) num.1)
 
     writes_go : st.mode ≡ W → (vs : List Version) → Tail vs (standing_at x.seq store.versions) → AreNextWrites fs store (x ∷ xs) p st vs → Comes own 0 x.seq 1 → Comes (own + length vs) (length vs) x.seq (suc (length vs))
     writes_go mode [] t are start = subst (λ n. Comes n 0 x.seq 1) (let e : own ≡ own + 0 = omega arith in e) start
     writes_go mode (v ∷ vs) t are start =
-        let num : Numbered (v ∷ vs) = next_numbered fs store (x ∷ xs) p st (v ∷ vs) are in
+        let num : AreNumbered (v ∷ vs) = next_numbered fs store (x ∷ xs) p st (v ∷ vs) are in
         let next : IsWritten fs store (x ∷ xs) p st mode (length vs) = is_written fs store (x ∷ xs) p st mode v vs are (found_all (v ∷ vs) t num) in
         one_more (length vs) (own + suc (length vs)) x.seq (suc (suc (length vs))) (omega arith)
         (with_answers (suc (own + length vs)) x.seq (suc (suc (length vs))) (a.Done ∷ on fs store (x ∷ xs) p st (length vs)) (on fs store (x ∷ xs) p st (suc (length vs))) (sym next.is)

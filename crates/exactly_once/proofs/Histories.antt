@@ -14,7 +14,7 @@ use Rattle.boki_machine.specs.Decided.{Point}
 use Rattle.exactly_once.specs.Sound.{AllFit}
 use Rattle.exactly_once.specs.Exclusion.{IsEnded}
 use Rattle.exactly_once.proofs.Tails.{Tail, here, there, tail_cases}
-use Rattle.exactly_once.proofs.Lives.{Under, tail_below}
+use Rattle.exactly_once.proofs.Lives.{Under, tail_below, under_tail}
 use Rattle.exactly_once.proofs.Points.{stands, Does, does, apart, began, operates, ends, unbegun, result_is}
 
 -- Of two parts of a history, one lies behind the other.
@@ -27,17 +27,13 @@ pub upto_tail : (c : ℕ) (xs : List (Live Body)) → Tail (upto c xs) xs
 upto_tail c [] = here
 upto_tail c (x ∷ xs) = elim (leb x.seq c) as (λ t. Tail (cond t (x ∷ xs) (upto c xs)) (x ∷ xs)) [ true ↦ here | false ↦ there (upto_tail c xs) ]
 
-pub under_at : (v : Live Body) (vs : List (Live Body)) (m : ℕ) (ws : List (Live Body)) → Under m ws → Tail (v ∷ vs) ws → Under m (v ∷ vs)
-under_at v vs m ws under here = under
-under_at v vs m (w ∷ ws) under (there t) = let u = under_at v vs under.0 ws under.3 t in (u.0, u.1, (let lt = u.2 in let l = under.2 in omega (arith, lt, l)), u.3)
-
 -- one record at a seqnum
 pub one_record : (x y : Live Body) (xs ys : List (Live Body)) (n : ℕ) (zs : List (Live Body)) → Under n zs → Tail (x ∷ xs) zs → Tail (y ∷ ys) zs → x.seq ≡ y.seq → x ∷ xs ≡ y ∷ ys
 one_record x y xs ys n zs under s t same = at (compare_tails (x ∷ xs) (y ∷ ys) zs s t)
   where
     at : Tail (x ∷ xs) (y ∷ ys) ⊎ Tail (y ∷ ys) (x ∷ xs) → x ∷ xs ≡ y ∷ ys
-    at (inl r) = ⊎_elim (λ e. e) (λ r. absurd (let lt = tail_below n x y xs ys (under_at y ys n zs under t) r in let h : ⊥ = omega (arith, lt, same) in h)) (tail_cases r)
-    at (inr r) = ⊎_elim (λ e. sym e) (λ r. absurd (let lt = tail_below n y x ys xs (under_at x xs n zs under s) r in let h : ⊥ = omega (arith, lt, same) in h)) (tail_cases r)
+    at (inl r) = ⊎_elim (λ e. e) (λ r. absurd (let lt = tail_below n x y xs ys (under_tail (y ∷ ys) n zs under t) r in let h : ⊥ = omega (arith, lt, same) in h)) (tail_cases r)
+    at (inr r) = ⊎_elim (λ e. sym e) (λ r. absurd (let lt = tail_below n y x ys xs (under_tail (x ∷ xs) n zs under s) r in let h : ⊥ = omega (arith, lt, same) in h)) (tail_cases r)
 
 -- the records up to the seqnum of one of them end with it
 leb-self : (n : ℕ) → leb n n ≡ true

@@ -1,6 +1,6 @@
 -- Beyond the cursor of an attempt that may put in a version, its invocation has no step record; and no invocation of mode R
 -- stands at or above it.
-use Rattle.std.proofs.Common.{◌≡◌, ◌⊎◌, inl, inr, ⊎_elim, ℕ, ◌<◌, ◌≤◌, Bool, true, false, cond, leb, List, [], ◌∷◌, length, Option, Some, None, refl, sym, ap, ◌∙◌, arith}
+use Rattle.std.proofs.Common.{◌≡◌, ◌⊎◌, inl, inr, ⊎_elim, ℕ, ◌<◌, ◌≤◌, Bool, true, false, cond, leb, List, [], ◌∷◌, length, Some, None, refl, sym, ap, ◌∙◌, arith}
 use Rattle.std.specs.Prelude.{is_some}
 use Rattle.std.proofs.lemmas.Bool.{cases_lt}
 use Rattle.lb_base.specs.declared.value.Value.{Value}
@@ -18,18 +18,19 @@ use Rattle.exactly_once.specs.Sound.{AllFit}
 use Rattle.exactly_once.specs.Steps.{is_step_of, steps_of}
 use Rattle.exactly_once.specs.Invariant.{World, records, values, Holds}
 use Rattle.exactly_once.proofs.Tails.{Tail, here, there, longer, shorter}
-use Rattle.exactly_once.proofs.Lives.{Under, under_more, live_under, tail_below, tails_by_seq}
-use Rattle.exactly_once.proofs.Maps.{same_key, same_itself}
+use Rattle.exactly_once.proofs.Lives.{Under, under_tail, live_under, tail_below, tails_by_seq}
+use Rattle.exactly_once.proofs.Maps.{same_itself}
 use Rattle.exactly_once.proofs.Exclusion.{tails_exclude, ended_later}
 use Rattle.exactly_once.proofs.Points.{stands, cursor_within, result_is}
 use Rattle.exactly_once.proofs.SamePlace.{IsSamePlace, same_point, skipped}
-use Rattle.exactly_once.proofs.Histories.{compare_tails, upto_tail, under_at, not_leb, one_record, fit_tail, HasInit, has_init, ended_stays}
+use Rattle.exactly_once.proofs.Histories.{compare_tails, upto_tail, not_leb, one_record, fit_tail, HasInit, has_init, ended_stays}
 use Rattle.exactly_once.proofs.Origins.{origin}
+use Rattle.exactly_once.proofs.Recorded.{step_is as step_is_at}
 use Rattle.exactly_once.proofs.Writers.{IsWriter, its, its_mode, logs_apart}
 
 -- The first step record of an invocation above a seqnum.
 
-record FirstAbove (setup : Setup) (fs : List Function) (store : Store) (p : List ℕ) (c : ℕ) (all ys : List (Live Body)) : Type 0 where
+pub record FirstAbove (setup : Setup) (fs : List Function) (store : Store) (p : List ℕ) (c : ℕ) (all ys : List (Live Body)) : Type 0 where
   pub step : Live Body
   pub rest : List (Live Body)
   pub tail : Tail (step ∷ rest) ys
@@ -37,12 +38,8 @@ record FirstAbove (setup : Setup) (fs : List Function) (store : Store) (p : List
   pub step_is : step_of step.holds ≡ Some (p, index)
   pub same : stands setup fs store p rest ≡ stands setup fs store p (upto c all)
 
-step_index : (p : List ℕ) (s : Option (List ℕ × ℕ)) → is_step_of p s ≡ true → (i : ℕ) × (s ≡ Some (p, i))
-step_index p None e = cc
-step_index p (Some s) e = (s.1, λ i. Some ((sym (same_key p s.0 e)) i, s.1))
-
 module _ (setup : Setup) (fs : List Function) (store : Store) (p : List ℕ) (c : ℕ) (all : List (Live Body)) where
-  first_above : (ys : List (Live Body)) → upto c ys ≡ upto c all → IsSamePlace p c ys ⊎ FirstAbove setup fs store p c all ys
+  pub first_above : (ys : List (Live Body)) → upto c ys ≡ upto c all → IsSamePlace p c ys ⊎ FirstAbove setup fs store p c all ys
   first_above [] e = inl refl
   first_above (y ∷ ys) e = at (first_above ys) (leb y.seq c) refl e
     where
@@ -54,7 +51,7 @@ module _ (setup : Setup) (fs : List Function) (store : Store) (p : List ℕ) (c 
 
       above_it : leb y.seq c ≡ false → upto c ys ≡ upto c all → IsSamePlace p c ys → (b : Bool) → is_step_of p (step_of y.holds) ≡ b → IsSamePlace p c (y ∷ ys) ⊎ FirstAbove setup fs store p c all (y ∷ ys)
       above_it t e same true is =
-          let s = step_index p (step_of y.holds) is in
+          let s = step_is_at p (step_of y.holds) is in
           inr (record { step = y; rest = ys; tail = here; index = s.0; step_is = s.1; same = same_point setup fs store p c ys same ∙ ap (stands setup fs store p) e })
       above_it t e same false is =
           inl (ap (λ b. length (steps_of p (cond b (y ∷ ys) (upto c ys)))) t ∙ same ∙ sym (ap (λ b. length (cond b (y.seq ∷ steps_of p ys) (steps_of p ys))) is))
@@ -72,10 +69,6 @@ none_above p c i x xs n ys under same here step lt =
 none_above p c i x xs n (y ∷ ys) under same (there t) step lt =
     let above = tail_below n x y xs ys under t in
     none_above p c i x xs under.0 ys under.3 (skipped p c y ys (not_leb y.seq c (omega (arith, above, lt))) same).rest t step lt
-
-pub under_tail : (ys : List (Live Body)) (m : ℕ) (xs : List (Live Body)) → Under m xs → Tail ys xs → Under m ys
-under_tail ys m xs under here = under
-under_tail ys m (x ∷ xs) under (there t) = under_more under.0 m ys (let lt = under.2 in omega (arith, lt)) (under_tail ys under.0 xs under.3 t)
 
 module _ (setup : Setup) (fs : List Function) (w : World) (holds : Holds setup fs w) (a : Attempt) (key : List ℕ) (value : Value) (writer : IsWriter setup fs (values w.store) w.store.fences (records w) a key value) where
   abbrev store : Store
@@ -104,7 +97,7 @@ module _ (setup : Setup) (fs : List Function) (w : World) (holds : Holds setup f
           (λ may. let no_way : true ≡ false = sym (ap (λ (st : Point). st.begun) same ∙ writer.follows.begun) ∙ may.new in cc)
           (λ l. logs_apart setup fs store w.store.fences n now under holds.sound a key value writer a.path (upto o.c now) f.index l.ask (upto_tail o.c now) l.logs (ap (λ (st : Point). st.cursor) same ∙ writer.follows.cursor)) o.logs
 
-  unended_now : result_of a.path now ≡ None
+  pub unended_now : result_of a.path now ≡ None
   unended_now =
       sym (result_is setup fs store now a.path holds.sound.fit)
       ∙ ap (λ (st : Point). st.result) (same_point setup fs store a.path a.cursor now no_later) ∙ writer.follows.unended
@@ -139,7 +132,7 @@ module _ (setup : Setup) (fs : List Function) (w : World) (holds : Holds setup f
 
       ended_first : hq.init.seq < hp.init.seq → (stands setup fs store q ys).cursor < a.cursor
       ended_first lt =
-          let u = under_at hp.init hp.behind n now under tp in
+          let u = under_tail (hp.init ∷ hp.behind) n now under tp in
           let r = tails_by_seq hq.init hp.init hq.behind hp.behind n now under tq tp lt in
           let ended = tails_exclude setup.mode q R W hq.init hq.behind hp.behind u.0 hq.holds_is u.3 mode_q mode_p tt r in
           let low = hp.low in
@@ -154,7 +147,7 @@ module _ (setup : Setup) (fs : List Function) (w : World) (holds : Holds setup f
 
       ended_other : hp.init.seq < hq.init.seq → ⊥
       ended_other lt =
-          let u = under_at hq.init hq.behind n now under tq in
+          let u = under_tail (hq.init ∷ hq.behind) n now under tq in
           let r = tails_by_seq hp.init hq.init hp.behind hq.behind n now under tp tq lt in
           let ended = ended_later a.path hq.behind now (shorter tq) (tails_exclude setup.mode a.path W R hp.init hp.behind hq.behind u.0 hp.holds_is u.3 mode_p mode_q tt r) in
           let no_way : false ≡ true = ap is_some (sym unended_now) ∙ ended in cc

@@ -7,7 +7,13 @@ use Rattle.exactly_once.specs.Exact.{MachineHolds, EventsKeep}
 use Rattle.exactly_once.specs.Opening.{world_of}
 use Rattle.exactly_once.specs.Laws.{AfterEvents, DuplicatesAgree, attempts_of}
 use Rattle.exactly_once.proofs.Exact.{run_holds, opens}
+use Rattle.exactly_once.specs.Ended.{EndedAreLeft}
+use Rattle.exactly_once.specs.Economy.{EndedAreEconomic}
+use Rattle.exactly_once.specs.Kept.{DecidedAnswersStay}
 use Rattle.exactly_once.proofs.Duplicates.{all_agree}
+use Rattle.exactly_once.proofs.VersionEvents.{event_puts}
+use Rattle.exactly_once.proofs.Economy.{economic}
+use Rattle.exactly_once.proofs.Ended.{dead, step_leaves, miss_leaves, gone_only}
 
 module _ (keep : EventsKeep) where
   pub after_events : (Law : Setup → List Function → Machine → Type 0) → ((setup : Setup) (fs : List Function) (m : Machine) → MachineHolds setup fs m → Law setup fs m) → AfterEvents Law
@@ -16,3 +22,21 @@ module _ (keep : EventsKeep) where
 
   pub duplicates_agree : AfterEvents DuplicatesAgree
   duplicates_agree = after_events DuplicatesAgree (λ setup fs m good. all_agree setup fs (world_of m) good.holds (attempts_of m) good.holds.attempts)
+
+  pub ended_are_left : AfterEvents EndedAreLeft
+  ended_are_left = after_events EndedAreLeft (λ setup fs m good.
+      let w = world_of m in
+      record {
+        stay = λ a among ended. record {
+          steps = step_leaves setup fs w good.holds a among ended;
+          misses = miss_leaves setup fs w good.holds a among ended (record { shard = 0; local = 0 });
+        };
+        dead = dead setup fs w good.holds;
+        gone = gone_only setup fs w good.holds;
+      })
+
+  pub ended_are_economic : AfterEvents EndedAreEconomic
+  ended_are_economic = after_events EndedAreEconomic (λ setup fs m good path ended. economic setup fs (world_of m) good.holds path ended)
+
+  pub decided_answers_stay : AfterEvents DecidedAnswersStay
+  decided_answers_stay = after_events DecidedAnswersStay (λ setup fs m good event v more. event_puts setup fs m good v event more)

@@ -56,4 +56,12 @@ pub mod Operates
 pub mod Moves
 pub mod Misses
 pub mod Duplicates
+pub mod Effects
+pub mod Ended
+pub mod Counted
+pub mod Economy
+pub mod Once
+pub mod Held
+pub mod Kept
+pub mod VersionEvents
 pub mod Laws

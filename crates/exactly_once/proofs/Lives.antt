@@ -87,6 +87,6 @@ module _ {A : Type 0} where
   tails_by_seq x y xs ys n (z ∷ zs) under s (there t) lt =
       ⊎_elim (λ same. absurd (let e : x ≡ z = cc in omega (arith, lt, ap (λ (x : Live A). x.seq) e, tail_below n y z ys zs under t))) (λ s. tails_by_seq x y xs ys under.0 zs under.3 s t lt) (tail_cases s)
 
-  pub under_behind : (x : Live A) (xs : List (Live A)) (n : ℕ) (ys : List (Live A)) → Under n ys → Tail (x ∷ xs) ys → Under n xs
-  under_behind x xs n ys under here = under_more under.0 n xs (omega (arith, under.2)) under.3
-  under_behind x xs n (y ∷ ys) under (there t) = under_more under.0 n xs (omega (arith, under.2)) (under_behind x xs under.0 ys under.3 t)
+  pub under_tail : (ys : List (Live A)) (m : ℕ) (xs : List (Live A)) → Under m xs → Tail ys xs → Under m ys
+  under_tail ys m xs under here = under
+  under_tail ys m (x ∷ xs) under (there t) = under_more under.0 m ys (omega (arith, under.2)) (under_tail ys under.0 xs under.3 t)

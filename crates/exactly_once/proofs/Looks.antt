@@ -15,9 +15,8 @@ use Rattle.boki_machine.specs.Attempt.{call_in, call_of}
 use Rattle.boki_machine.specs.Decided.{Point, unknown, more, function_of}
 use Rattle.boki_machine.specs.Turns.{until}
 use Rattle.boki_machine.specs.Ideal.{Invocation, Ideal, Dirty, invoked, go}
-use Rattle.exactly_once.specs.Sound.{Reaches, frees_to, standing_at, MayStand, AllFit}
+use Rattle.exactly_once.specs.Sound.{Reaches, frees_to, standing_at, MayStand, AllFit, AreNumbered}
 use Rattle.exactly_once.proofs.Lives.{Under}
-use Rattle.exactly_once.proofs.Positions.{Numbered}
 use Rattle.exactly_once.proofs.Points.{stands, IsCalled, is_called}
 use Rattle.exactly_once.proofs.Frees.{on, more_older, long_reaches, index_is}
 use Rattle.exactly_once.proofs.Goes.{AreLast, Gone, by_key}
@@ -149,7 +148,7 @@ module _ (setup : Setup) (fs : List Function) (store : Store) where
       count None index own e next = ap (λ c. own + versions_at c store.versions) (sym cursor)
       count (Some j) index own e next = let far : j ≡ suc (frees_to j st + length st.answers) = index_is fs store (x ∷ xs) p st j (next.0 begun) in omega (arith, e, far)
 
-      long : (a : Option ℕ) → MayStand fs store (x ∷ xs) p st None st.mode (standing_at x.seq store.versions) → Numbered (standing_at x.seq store.versions) → Next a (x ∷ xs) p st → length (on fs store (x ∷ xs) p st (frees a store st)) ≡ frees a store st + length st.answers
+      long : (a : Option ℕ) → MayStand fs store (x ∷ xs) p st None st.mode (standing_at x.seq store.versions) → AreNumbered (standing_at x.seq store.versions) → Next a (x ∷ xs) p st → length (on fs store (x ∷ xs) p st (frees a store st)) ≡ frees a store st + length st.answers
       long None stand numbered next =
           subst (λ c. length (on fs store (x ∷ xs) p st (versions_at c store.versions)) ≡ versions_at c store.versions + length st.answers) (sym cursor)
           (last_decided fs store x xs m is_seq under numbered p (λ q. expected (get q ahead) (x ∷ xs) q) (queues (x ∷ xs)) (stored (commits (x ∷ xs))) st cursor (open_since (commits (x ∷ xs)) st.transaction) s 0 st.mode refl stand)

@@ -30,7 +30,8 @@ use Rattle.exactly_once.specs.Moves.{MissesKeep}
 use Rattle.exactly_once.specs.Versions.{VersionsKeep}
 use Rattle.exactly_once.proofs.SamePlace.{called_upto}
 use Rattle.exactly_once.proofs.MicroSteps.{steps_keep}
-use Rattle.exactly_once.proofs.Acting.{called_path, own_log, engine_at}
+use Rattle.exactly_once.proofs.Origins.{own_log}
+use Rattle.exactly_once.proofs.Acting.{called_path, engine_at}
 use Rattle.exactly_once.proofs.Operates.{named_right, put_holds}
 
 module _ (setup : Setup) (fs : List Function) (w : World) (holds : Holds setup fs w) (t : Attempt) (among : IsAmong t w.attempts) where

@@ -32,7 +32,8 @@ use Rattle.exactly_once.proofs.Points.{stands, Does, does, apart, began, operate
 use Rattle.exactly_once.proofs.SamePlace.{called_upto, place_is, unbegun_marks}
 use Rattle.exactly_once.proofs.Maps.{same_itself}
 use Rattle.exactly_once.proofs.Recorded.{recorded, none_begun, none_found, count_steps, tagged_upto}
-use Rattle.exactly_once.proofs.Acting.{called_path, own_log, engine_at, within_log, following, up_to, fit_here}
+use Rattle.exactly_once.proofs.Origins.{own_log}
+use Rattle.exactly_once.proofs.Acting.{called_path, engine_at, within_log, following, up_to, fit_here}
 use Rattle.exactly_once.proofs.Sends.{init_right}
 use Rattle.exactly_once.proofs.Adopts.{no_frees, stay_right, life_right, tags, Recorded}
 use Rattle.exactly_once.proofs.Takes.{takes_right}

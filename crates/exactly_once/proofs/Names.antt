@@ -24,6 +24,12 @@ use Rattle.exactly_once.specs.Invariant.{Logs, IsNext}
 use Rattle.exactly_once.specs.Names.{with_name}
 use Rattle.exactly_once.proofs.Maps.{same_key}
 
+-- names that are the same by the test are one
+pub one_name : (m n : Name) → same_name m n ≡ true → m ≡ n
+one_name m n e =
+    let parts = and_parts (bytes_eq m.path n.path) (eqb m.place n.place) e in
+    λ i. record { path = same_key m.path n.path parts.0 i; place = eqb-true m.place n.place parts.1 i }
+
 -- A name that has a value keeps it.
 
 module _ (s : Stored) (store : Store) (new : value_of s.name store.named ≡ None) where
@@ -36,9 +42,7 @@ module _ (s : Stored) (store : Store) (new : value_of s.name store.named ≡ Non
       at : (t : Bool) → same_name name s.name ≡ t → cond t (Some s.value) (value_of name store.named) ≡ Some v
       at false e = is
       at true e =
-          let parts = and_parts (bytes_eq name.path s.name.path) (eqb name.place s.name.place) e in
-          let same : name ≡ s.name = λ i. record { path = same_key name.path s.name.path parts.0 i; place = eqb-true name.place s.name.place parts.1 i } in
-          let none : value_of name store.named ≡ None = ap (λ n. value_of n store.named) same ∙ new in
+          let none : value_of name store.named ≡ None = ap (λ n. value_of n store.named) (one_name name s.name e) ∙ new in
           let no_way : None ≡ Some v = sym none ∙ is in cc
 
   here_kept : (here : Option Value) (name : Name) (v : Value) → here_or_named here name store.named ≡ Some v → here_or_named here name (s ∷ store.named) ≡ Some v

@@ -1,8 +1,7 @@
 -- A name has one value: whoever stores it asked the same write at the same place.
-use Rattle.std.proofs.Common.{◌≡◌, ⊎_elim, ℕ, ◌≤◌, Bool, true, false, cond, eqb, List, [], ◌∷◌, length, Some, refl, sym, ap, ◌∙◌, subst, arith}
-use Rattle.std.specs.Prelude.{bytes_eq}
+use Rattle.std.proofs.Common.{◌≡◌, ⊎_elim, ℕ, ◌≤◌, Bool, true, false, cond, List, [], ◌∷◌, length, Some, refl, sym, ap, ◌∙◌, subst, arith}
 use Rattle.std.specs.List.{AllByRecursion}
-use Rattle.std.proofs.lemmas.Bool.{and_parts, eqb-true, cases_order}
+use Rattle.std.proofs.lemmas.Bool.{cases_order}
 use Rattle.lb_base.specs.declared.value.Value.{Value}
 use Rattle.boki_types.specs.declared.body.Body.{Body}
 use Rattle.boki_types.specs.declared.operation.Op.TheVariants as o
@@ -19,7 +18,7 @@ use Rattle.exactly_once.specs.Sound.{AllFit}
 use Rattle.exactly_once.specs.Invariant.{MayLog, AreFenced, Logs, IsOwed}
 use Rattle.exactly_once.specs.Steps.{steps_of}
 use Rattle.exactly_once.proofs.Lives.{Under}
-use Rattle.exactly_once.proofs.Maps.{same_key}
+use Rattle.exactly_once.proofs.Names.{one_name}
 use Rattle.exactly_once.proofs.Points.{stands}
 use Rattle.exactly_once.proofs.SamePlace.{IsSamePlace, same_point, same_marks, asks_now, fit_upto, under_upto, place_is}
 use Rattle.exactly_once.proofs.Cursors.{same_ask}
@@ -38,10 +37,8 @@ kept P name value (s ∷ ss) all is = at (kept P name value ss all.1) (same_name
     at : (value_of name ss ≡ Some value → IsKept P name value) → (t : Bool) → same_name name s.name ≡ t → cond t (Some s.value) (value_of name ss) ≡ Some value → IsKept P name value
     at ih false e is = ih is
     at ih true e is =
-        let parts = and_parts (bytes_eq name.path s.name.path) (eqb name.place s.name.place) e in
-        let same : name ≡ s.name = λ i. record { path = same_key name.path s.name.path parts.0 i; place = eqb-true name.place s.name.place parts.1 i } in
         let value_is : s.value ≡ value = cc in
-        record { entry = s; holds = all.0; name_is = sym same; value_is = value_is }
+        record { entry = s; holds = all.0; name_is = sym (one_name name s.name e); value_is = value_is }
 
 module _ (setup : Setup) (fs : List Function) (store : Store) (fences : List Raised) (n : ℕ) (now : List (Live Body)) (under : Under n now) (fit : AllFit setup fs store now) (p : List ℕ) where
   abbrev LogsAt : ℕ → ℕ → Ask → Type 0
@@ -66,7 +63,7 @@ module _ (setup : Setup) (fs : List Function) (store : Store) (fences : List Rai
       }
 
   -- so what it logs at a place is the same
-  one_ask : (c d i j : ℕ) (one two : Ask) → place_at c ≡ place_at d → LogsAt c i one → LogsAt d j two → one ≡ two
+  pub one_ask : (c d i j : ℕ) (one two : Ask) → place_at c ≡ place_at d → LogsAt c i one → LogsAt d j two → one ≡ two
   one_ask c d i j one two places logs others =
       ⊎_elim (λ e. from (omega (arith, e))) (λ h. ⊎_elim (λ lt. from (omega (arith, lt))) (λ gt. same_ask fs store (upto c now) p (stands setup fs store p (upto c now)) fences i j one two logs (logs_later d c j two (omega (arith, gt)) (sym places) others)) h) (cases_order c d)
     where

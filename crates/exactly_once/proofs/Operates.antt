@@ -43,6 +43,10 @@ use Rattle.exactly_once.proofs.Adopts.{stay_right, gone_right}
 use Rattle.exactly_once.proofs.OneValue.{one_value}
 use Rattle.exactly_once.proofs.FreeSteps.{read_follows, read_all_follows, put_follows, late_follows, store_follows, not_fresh}
 
+pub no_value : (o : Option Value) → is_some o ≡ false → o ≡ None
+no_value None e = refl
+no_value (Some v) e = let no_way : true ≡ false = e in cc
+
 module _ (setup : Setup) (fs : List Function) (w : World) (holds : Holds setup fs w) (t : Attempt) (among : IsAmong t w.attempts) (running : t.life ≡ Running) (path : IsPath t.path) (place : ℕ) (begun : t.place ≡ suc place) where
   abbrev pub view : List (Live Body)
   view = upto (engine_at setup fs w holds t) (records w)
@@ -169,11 +173,7 @@ module _ (setup : Setup) (fs : List Function) (w : World) (holds : Holds setup f
       fenced = ltb t.cursor (fence key w.store.fences)
 
       no_version : there ≡ false → version key t.cursor (suc t.k) w.store.versions ≡ None
-      no_version e = at (version key t.cursor (suc t.k) w.store.versions) e
-        where
-          at : (o : Option Value) → is_some o ≡ false → o ≡ None
-          at None e = refl
-          at (Some v) e = let no_way : true ≡ false = e in cc
+      no_version e = no_value (version key t.cursor (suc t.k) w.store.versions) e
 
       new_holds : there ≡ false → fenced ≡ false → Holds setup fs (puts (next_version t key value) w)
       new_holds absent before =

@@ -18,10 +18,9 @@ use Rattle.boki_machine.specs.Turns.{until}
 use Rattle.boki_machine.specs.Ideal.{Invocation, Ideal, asked_by}
 use Rattle.boki_machine.specs.Ideal as ideal
 use Rattle.boki_model.proofs.KeyMaps.{get-put_same}
-use Rattle.exactly_once.specs.Sound.{Reaches, frees_to, standing_at, MayStand, StandAt, AllFit}
+use Rattle.exactly_once.specs.Sound.{Reaches, frees_to, standing_at, MayStand, StandAt, AllFit, AreNumbered}
 use Rattle.exactly_once.proofs.Lives.{Under}
 use Rattle.exactly_once.proofs.Maps.{same_itself, get_other}
-use Rattle.exactly_once.proofs.Positions.{Numbered}
 use Rattle.exactly_once.proofs.Stages.{stage_before, stage_other}
 use Rattle.exactly_once.proofs.Points.{stands, cursor_within}
 use Rattle.exactly_once.proofs.Frees.{on, long_reaches, index_is}
@@ -44,7 +43,7 @@ module _ (setup : Setup) (fs : List Function) (store : Store) (x : Live Body) (x
     pub stand_own : MayStand fs store (x ∷ xs) p (stands setup fs store p (x ∷ xs)) (stands setup fs store p (x ∷ xs)).result (stands setup fs store p (x ∷ xs)).mode (standing_at x.seq store.versions)
     stand_own = subst (λ o. StandAt setup fs store (x ∷ xs) o (standing_at x.seq store.versions)) step fit.1
 
-    pub numbered_own : Numbered (standing_at x.seq store.versions)
+    pub numbered_own : AreNumbered (standing_at x.seq store.versions)
     numbered_own = stand_numbered fs store (x ∷ xs) p (stands setup fs store p (x ∷ xs)) (stands setup fs store p (x ∷ xs)).result (stands setup fs store p (x ∷ xs)).mode (standing_at x.seq store.versions) stand_own
 
     -- the other invocations stay

@@ -10,7 +10,7 @@ use Rattle.boki_types.specs.declared.store.Name.{Name}
 use Rattle.boki_model.specs.Live.{Live}
 use Rattle.boki_model.specs.Maps.{get}
 use Rattle.boki_model.specs.Writes.{Store, Version, Stored, Write, write_at, version, here_or_named, if_key, logged_write, logged_writes, version_writes, initial_writes, writes_of, with, is_below, last_below, last}
-use Rattle.exactly_once.specs.Sound.{standing_at}
+use Rattle.exactly_once.specs.Sound.{standing_at, AreNumbered}
 use Rattle.exactly_once.proofs.Tails.{Tail, here, there, tail_cases}
 use Rattle.exactly_once.proofs.Each.{each_append, each_weaker, each_both, each_kept, tail_prepend, tail_append}
 use Rattle.exactly_once.proofs.Maps.{same_itself}
@@ -76,16 +76,12 @@ each_below P key named n xs under one =
 
 -- The versions at a seqnum.
 
-abbrev pub Numbered : List Version → Type 0
-Numbered [] = Unit {0}
-Numbered (v ∷ vs) = (v.k ≡ suc (length vs)) × Numbered vs
-
-pub numbered_within : (vs : List Version) → Numbered vs → AllByRecursion (λ v. (0 < v.k) × (v.k ≤ length vs)) vs
+pub numbered_within : (vs : List Version) → AreNumbered vs → AllByRecursion (λ v. (0 < v.k) × (v.k ≤ length vs)) vs
 numbered_within [] numbered = tt
 numbered_within (v ∷ vs) numbered =
     ((omega (arith, numbered.0), omega (arith, numbered.0)), each_weaker (λ (v : Version). (0 < v.k) × (v.k ≤ length vs)) (λ (v : Version). (0 < v.k) × (v.k ≤ suc (length vs))) (λ v h. (h.0, omega (arith, h.1))) vs (numbered_within vs numbered.1))
 
-numbered_tail : (rest vs : List Version) → Tail rest vs → Numbered vs → Numbered rest
+numbered_tail : (rest vs : List Version) → Tail rest vs → AreNumbered vs → AreNumbered rest
 numbered_tail rest vs here numbered = numbered
 numbered_tail rest (v ∷ vs) (there t) numbered = numbered_tail rest vs t numbered.1
 
@@ -94,7 +90,7 @@ length_tail v rest vs here = omega arith
 length_tail v rest (u ∷ vs) (there t) = omega (arith, length_tail v rest vs t)
 
 -- each number stands once
-pub numbered_once : (v : Version) (rest vs : List Version) → Tail (v ∷ rest) vs → Numbered vs → AllByRecursion (λ u. u.k ≡ v.k → u ≡ v) vs
+pub numbered_once : (v : Version) (rest vs : List Version) → Tail (v ∷ rest) vs → AreNumbered vs → AllByRecursion (λ u. u.k ≡ v.k → u ≡ v) vs
 numbered_once v rest vs here numbered =
     (λ e. refl, each_weaker (λ (u : Version). (0 < u.k) × (u.k ≤ length rest)) (λ (u : Version). u.k ≡ v.k → u ≡ v) (λ u h e. absurd (let no_way : ⊥ = omega (arith, h.1, e, numbered.0) in no_way)) rest (numbered_within rest numbered.1))
 numbered_once v rest (u ∷ vs) (there t) numbered =

@@ -103,7 +103,7 @@ count_steps p (x ∷ xs) all = ap (λ t. cond t (suc (count (step_tag p) xs)) (c
     at true ih = ap suc ih
     at false ih = ih
 
-step_is : (p : List ℕ) (s : Option (List ℕ × ℕ)) → is_step_of p s ≡ true → (i : ℕ) × (◌≡◌ {A = Option (List ℕ × ℕ)} s (Some (p, i)))
+pub step_is : (p : List ℕ) (s : Option (List ℕ × ℕ)) → is_step_of p s ≡ true → (i : ℕ) × (◌≡◌ {A = Option (List ℕ × ℕ)} s (Some (p, i)))
 step_is p None is = let no_way : false ≡ true = is in cc
 step_is p (Some s) is = (s.1, λ j. Some (sym (same_key p s.0 is) j, s.1))
 

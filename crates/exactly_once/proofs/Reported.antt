@@ -32,7 +32,7 @@ use Rattle.exactly_once.proofs.Maps.{same_itself, keys_cases, get-put, get_first
 use Rattle.exactly_once.proofs.Lasts.{not_below_zero}
 use Rattle.exactly_once.proofs.Positions.{each_write, logged_stands, StandsAt}
 
-less_apart : (o : Ordering) → is_lt o ≡ true → is_eq o ≡ false
+pub less_apart : (o : Ordering) → is_lt o ≡ true → is_eq o ≡ false
 less_apart Less e = refl
 less_apart Equal e = cc
 less_apart Greater e = refl
@@ -154,7 +154,7 @@ module _ (q : List ℕ) (n : ℕ) where
       nothing [] all = refl
       nothing (w ∷ ws) all = rw all.0 (nothing ws all.1)
 
-keys_in_order : (n : ℕ) (store : Store) (xs : List (Live Body)) → InOrder (keys_below n store xs)
+pub keys_in_order : (n : ℕ) (store : Store) (xs : List (Live Body)) → InOrder (keys_below n store xs)
 keys_in_order n store xs = versions store.versions
   where
     initial : (m : List (List ℕ × Value)) → InOrder (initial_keys m)

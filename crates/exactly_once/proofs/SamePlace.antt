@@ -21,6 +21,11 @@ use Rattle.exactly_once.proofs.Lives.{Under}
 use Rattle.exactly_once.proofs.Points.{stands, Does, does, apart, began, operates, ends, unbegun, cursor_within, still_called}
 use Rattle.exactly_once.proofs.Frees.{more_older}
 
+-- a record that is no step record of the path, by its step
+pub no_own_step : (p : List ℕ) (s : Option (List ℕ × ℕ)) → ((t : List ℕ × ℕ) → s ≡ Some t → bytes_eq p t.0 ≡ false) → is_step_of p s ≡ false
+no_own_step p None other = refl
+no_own_step p (Some t) other = other t refl
+
 -- a record that is no step record of the path leaves its point
 pub point_apart : (setup : Setup) (fs : List Function) (store : Store) (p : List ℕ) (x : Live Body) (xs : List (Live Body)) (s : Option (List ℕ × ℕ)) → is_step_of p s ≡ false → advanced setup fs store xs p x s (stands setup fs store p xs) ≡ stands setup fs store p xs
 point_apart setup fs store p x xs None e = refl
@@ -131,12 +136,8 @@ module _ (setup : Setup) (fs : List Function) (store : Store) (p : List ℕ) whe
       own : (next : Point) (i : ℕ) → step_of x.holds ≡ Some (p, i) → next.place ≡ suc (length (steps_of p xs)) → next.place ≡ length (steps_of p (x ∷ xs))
       own next i step is = is ∙ sym (ap (λ s. length (cond (is_step_of p s) (x.seq ∷ steps_of p xs) (steps_of p xs))) step ∙ ap (λ t. length (cond t (x.seq ∷ steps_of p xs) (steps_of p xs))) (same_itself p))
 
-      none : (s : Option (List ℕ × ℕ)) → ((t : List ℕ × ℕ) → s ≡ Some t → bytes_eq p t.0 ≡ false) → is_step_of p s ≡ false
-      none None other = refl
-      none (Some t) other = other t refl
-
       at : (stands setup fs store p xs).place ≡ length (steps_of p xs) → (next : Point) → Does setup fs store x.seq x.holds xs p next → next.place ≡ length (steps_of p (x ∷ xs))
-      at ih next (apart other finish is) = ap (λ (p : Point). p.place) is ∙ ih ∙ sym (ap (λ t. length (cond t (x.seq ∷ steps_of p xs) (steps_of p xs))) (none (step_of x.holds) other))
+      at ih next (apart other finish is) = ap (λ (p : Point). p.place) is ∙ ih ∙ sym (ap (λ t. length (cond t (x.seq ∷ steps_of p xs) (steps_of p xs))) (no_own_step p (step_of x.holds) other))
       at ih next (began body may is) =
           own next 1 (ap step_of body) (ap (λ (p : Point). p.place) is ∙ ap suc (ap (λ (p : Point). p.place) (sym (unbegun setup fs store xs p fit.2 may.new)) ∙ ih))
       at ih next (operates i step finish reaches is) = own next i step (ap (λ (p : Point). p.place) is ∙ ap suc ih)

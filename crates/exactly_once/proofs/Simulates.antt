@@ -17,12 +17,12 @@ use Rattle.boki_machine.specs.Decided.{Point}
 use Rattle.boki_machine.specs.Turns.{turn_of, turns_to, ahead_by}
 use Rattle.boki_machine.specs.Ideal.{Invocation, Ideal, turn, ideal, opening}
 use Rattle.boki_model.proofs.KeyMaps.{get-put_same}
-use Rattle.exactly_once.specs.Sound.{Reaches, frees_to, standing_at, StandAt, AllFit}
+use Rattle.exactly_once.specs.Sound.{Reaches, frees_to, standing_at, StandAt, AllFit, AreNumbered}
 use Rattle.exactly_once.specs.Runs.{SoundRuns}
 use Rattle.exactly_once.proofs.Lives.{Under, live_under}
 use Rattle.exactly_once.proofs.Maps.{get_other, get-put_objects}
 use Rattle.exactly_once.proofs.Each.{each_weaker}
-use Rattle.exactly_once.proofs.Positions.{Numbered, last_first}
+use Rattle.exactly_once.proofs.Positions.{last_first}
 use Rattle.exactly_once.proofs.Stages.{stage_rise}
 use Rattle.exactly_once.proofs.Points.{stands, Does, does, apart, began, operates, ends, cursor_within}
 use Rattle.exactly_once.proofs.Frees.{more_older}
@@ -145,8 +145,8 @@ module _ (setup : Setup) (fs : List Function) (store : Store) where
       each_weaker (λ (v : Version). v.cursor < suc n → is_live v.cursor (x ∷ xs) ≡ true) (λ (v : Version). v.cursor < suc n → v.cursor ≤ x.seq)
       (λ v h lt. ⊎_elim (λ here. omega (arith, eqb-true v.cursor x.seq here)) (λ there. omega (arith, live_within under.0 xs v.cursor under.3 there, under.1)) (or_cases (eqb v.cursor x.seq) (is_live v.cursor xs) (h lt))) store.versions placed
 
-  stand_all : (records : List (Live Body)) (o : Option (List ℕ × ℕ)) (vs : List Version) → StandAt setup fs store records o vs → Numbered vs
-  stand_all records None vs stand = subst Numbered (sym stand) tt
+  stand_all : (records : List (Live Body)) (o : Option (List ℕ × ℕ)) (vs : List Version) → StandAt setup fs store records o vs → AreNumbered vs
+  stand_all records None vs stand = subst AreNumbered (sym stand) tt
   stand_all records (Some s) vs stand = stand_numbered fs store records s.0 (stands setup fs store s.0 records) (stands setup fs store s.0 records).result (stands setup fs store s.0 records).mode vs stand
 
   -- the execution of the turns comes to the state that belongs to the records

@@ -5,18 +5,18 @@ use Rattle.std.specs.List.{AllByRecursion}
 use Rattle.boki_types.specs.declared.body.Body.{Body}
 use Rattle.boki_model.specs.Live.{Live}
 use Rattle.boki_model.specs.Writes.{Store, Version, Write, version, if_key, logged_write, last}
-use Rattle.exactly_once.specs.Sound.{standing_at}
+use Rattle.exactly_once.specs.Sound.{standing_at, AreNumbered}
 use Rattle.exactly_once.proofs.Tails.{Tail}
 use Rattle.exactly_once.proofs.Each.{each_weaker}
 use Rattle.exactly_once.proofs.Lives.{Under}
 use Rattle.exactly_once.proofs.Lasts.{not_below_zero}
-use Rattle.exactly_once.proofs.Positions.{At, at_of, Numbered, numbered_within, numbered_once, found_version, last_behind, last_apart, last_over, last_logged, last_version}
+use Rattle.exactly_once.proofs.Positions.{At, at_of, numbered_within, numbered_once, found_version, last_behind, last_apart, last_over, last_logged, last_version}
 
 each_version : (P : Version → Type 0) → ((v : Version) → P v) → (vs : List Version) → AllByRecursion P vs
 each_version P all [] = tt
 each_version P all (v ∷ vs) = (all v, each_version P all vs)
 
-module _ (store : Store) (x : Live Body) (xs : List (Live Body)) (m : ℕ) (is_seq : x.seq ≡ suc m) (under : Under m xs) (numbered : Numbered (standing_at x.seq store.versions)) where
+module _ (store : Store) (x : Live Body) (xs : List (Live Body)) (m : ℕ) (is_seq : x.seq ≡ suc m) (under : Under m xs) (numbered : AreNumbered (standing_at x.seq store.versions)) where
   abbrev pub here_all : List Version
   here_all = standing_at x.seq store.versions
 

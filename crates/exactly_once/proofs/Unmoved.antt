@@ -19,10 +19,10 @@ use Rattle.exactly_once.specs.Steps.{is_step_of}
 use Rattle.exactly_once.specs.Invariant.{World, records, values, marks, AreFenced, FencedBehind, Logs, IsNext, Holds}
 use Rattle.exactly_once.specs.Versions.{with_version, next_version}
 use Rattle.exactly_once.proofs.Tails.{Tail, shorter}
-use Rattle.exactly_once.proofs.Lives.{Under, live_under}
+use Rattle.exactly_once.proofs.Lives.{Under, live_under, under_tail}
 use Rattle.exactly_once.proofs.Maps.{same_key, same_itself}
 use Rattle.exactly_once.proofs.Points.{stands, Does, does, apart, began, operates, ends, cursor_within}
-use Rattle.exactly_once.proofs.Histories.{under_at, fit_tail}
+use Rattle.exactly_once.proofs.Histories.{fit_tail}
 use Rattle.exactly_once.proofs.Writers.{IsWriter, logs_apart, is_its}
 use Rattle.exactly_once.proofs.LastCursor.{none_above, no_later, reads_below}
 use Rattle.exactly_once.proofs.Puts.{marks_behind, IsSafe, IsUnhit, unhit_safe, asks_kept, NotInit, stepped_kept, frame, same_frame}
@@ -53,13 +53,13 @@ module _ (setup : Setup) (fs : List Function) (w : World) (holds : Holds setup f
       above : (stands setup fs old q xs).cursor ≡ a.cursor → ⊥
       above cursor =
           let it = is_its setup fs old fences (length w.log) now under holds.sound a key value writer q xs (shorter t) begun cursor in
-          let u = under_at x xs (length w.log) now under t in
+          let u = under_tail (x ∷ xs) (length w.log) now under t in
           let le = cursor_within setup fs old u.0 xs q u.3 (fit_tail setup fs old xs now (shorter t) holds.sound.fit) in
           let first = u.1 in
           none_above a.path a.cursor i x xs (length w.log) now under (no_later setup fs w holds a key value writer) t
           (step ∙ ap (λ q. Some (q, i)) it.path_is) (omega (arith, le, first, cursor))
 
-  safe_behind : (x : Live Body) (xs : List (Live Body)) (q : List ℕ) (i n : ℕ) → Tail (x ∷ xs) now → step_of x.holds ≡ Some (q, i) → NotInit v old fs fences writer.unfenced x.holds → IsSafe v old (stands setup fs old q xs) n
+  pub safe_behind : (x : Live Body) (xs : List (Live Body)) (q : List ℕ) (i n : ℕ) → Tail (x ∷ xs) now → step_of x.holds ≡ Some (q, i) → NotInit v old fs fences writer.unfenced x.holds → IsSafe v old (stands setup fs old q xs) n
   safe_behind x xs q i n t step not_init = at (stands setup fs old q (x ∷ xs)) (does setup fs old x xs q (fit_tail setup fs old (x ∷ xs) now t holds.sound.fit).0)
     where
       from : (stands setup fs old q xs).begun ≡ true → IsSafe v old (stands setup fs old q xs) n

@@ -30,7 +30,7 @@ use Rattle.exactly_once.proofs.Maps.{same_key, same_itself}
 use Rattle.exactly_once.proofs.Points.{stands, Does, does, apart, began, operates, ends}
 use Rattle.exactly_once.proofs.Orders.{among_each, stand_none}
 use Rattle.exactly_once.proofs.Histories.{upto_tail, one_record, fit_tail}
-use Rattle.exactly_once.proofs.Writers.{IsWriter, its_mode, behind_is, stood, on_tail, on_seq, next_writes, few_decided, as_many, asks_more, is_its, same_more_in_W}
+use Rattle.exactly_once.proofs.Writers.{IsWriter, its_mode, behind_is, stood, on_tail, on_seq, its_writes, few_decided, as_many, asks_more, is_its, same_more_in_W}
 use Rattle.exactly_once.proofs.LastCursor.{reads_below}
 use Rattle.exactly_once.proofs.Puts.{IsSafe, more_kept, writes_kept}
 use Rattle.exactly_once.proofs.Unmoved.{old, new, point_kept, framed, fits_kept, logs_here, next_kept}
@@ -76,7 +76,7 @@ module _ (setup : Setup) (fs : List Function) (w : World) (holds : Holds setup f
   kept_point q xs t fenced = point_kept setup fs w holds a key value writer q xs t fenced
 
   -- so many free operations of an invocation are decided
-  safe_at : (q : List ℕ) (xs : List (Live Body)) (m : ℕ) → Tail xs Now → (point setup fs Old q xs).begun ≡ true → length (more fs Old xs q (point setup fs Old q xs) m) ≡ m + length (point setup fs Old q xs).answers → IsSafe V Old (point setup fs Old q xs) m
+  pub safe_at : (q : List ℕ) (xs : List (Live Body)) (m : ℕ) → Tail xs Now → (point setup fs Old q xs).begun ≡ true → length (more fs Old xs q (point setup fs Old q xs) m) ≡ m + length (point setup fs Old q xs).answers → IsSafe V Old (point setup fs Old q xs) m
   safe_at q xs m t begun long = record { low = λ mode. reads_below setup fs w holds a key value writer q xs t begun mode; few = λ mode. at_cursor }
     where
       decided_here : (st : Point) (records_of : List (Live Body)) → st ≡ Its → length (more fs Old records_of a.path st m) ≡ m + length st.answers → m ≤ length Standing
@@ -128,7 +128,7 @@ module _ (setup : Setup) (fs : List Function) (w : World) (holds : Holds setup f
       let all : AreNextWrites fs New Behind a.path Its (V ∷ Standing) = (
         ap suc (sym count),
         ap (asked_at fs a.path Its) (more_kept V Old fs Behind a.path Its (length Standing) (safe (length Standing) (omega arith))) ∙ asks_more setup fs Old Fences n Now under holds.sound a key value writer,
-        writes_kept V Old fs Behind a.path Its Standing safe (next_writes setup fs Old Fences n Now under holds.sound a key value writer),
+        writes_kept V Old fs Behind a.path Its Standing safe (its_writes setup fs Old Fences n Now under holds.sound a key value writer),
       ) in
       subst (λ r. MayStand fs New Behind a.path Its r Its.mode (V ∷ Standing)) (sym writer.follows.unended)
       (subst (λ m. MayStand fs New Behind a.path Its None m (V ∷ Standing)) (sym mode) all)

@@ -13,3 +13,7 @@ pub mod Versions
 pub mod Moves
 pub mod Exact
 pub mod Laws
+pub mod Ended
+pub mod Economy
+pub mod Held
+pub mod Kept

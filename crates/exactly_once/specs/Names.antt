@@ -1,8 +1,7 @@
 -- A value may be stored under its name, in any state that the invariant holds of.
-use Rattle.std.specs.Prelude.{◌≡◌, ◌∷◌, length, None}
+use Rattle.std.specs.Prelude.{◌≡◌, ◌∷◌, length, None, List}
 use Rattle.boki_types.specs.declared.plan.Setup.{Setup}
 use Rattle.boki_types.specs.declared.program.Function.{Function}
-use Rattle.std.specs.Prelude.{List}
 use Rattle.boki_model.specs.Writes.{Store, Stored, value_of}
 use Rattle.exactly_once.specs.Invariant.{World, records, values, IsOwed, Holds}
 

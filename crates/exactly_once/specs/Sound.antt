@@ -27,6 +27,11 @@ use Rattle.boki_machine.specs.Decided.{Point, point, more, asked_at}
 abbrev pub standing_at : ℕ → List Version → List Version
 standing_at cursor versions = filter (λ v. cursor == v.cursor) versions
 
+-- such versions are numbered from 1
+abbrev pub AreNumbered : List Version → Type 0
+AreNumbered [] = Unit {0}
+AreNumbered (v ∷ vs) = (v.k ≡ suc (length vs)) × AreNumbered vs
+
 -- how many free operations lie between the last step record of an invocation and that of the index
 abbrev pub frees_to : ℕ → Point → ℕ
 frees_to index st = index - suc (length st.answers)

@@ -3,10 +3,14 @@
 //! others are the steps to it.
 #![tactic(auto)]
 
+ghost use Rattle.exactly_once.specs.Economy.{EndedAreEconomic};
+ghost use Rattle.exactly_once.specs.Ended.{EndedAreLeft};
 ghost use Rattle.exactly_once.specs.Events.{QuietEventsKeep};
 ghost use Rattle.exactly_once.specs.Exact.{EventsKeep, EventsAreExact, ExactlyOnce};
 ghost use Rattle.exactly_once.specs.Exclusion.{ModesExclude, FloorsPass};
+ghost use Rattle.exactly_once.specs.Held.{HeldOnce};
 ghost use Rattle.exactly_once.specs.MicroSteps.{MicroStepsKeep};
+ghost use Rattle.exactly_once.specs.Kept.{DecidedAnswersStay};
 ghost use Rattle.exactly_once.specs.Laws.{AfterEvents, DuplicatesAgree};
 ghost use Rattle.exactly_once.specs.Moves.{MissesKeep, MovesKeep};
 ghost use Rattle.exactly_once.specs.Names.{NamesKeep};
@@ -106,6 +110,31 @@ pub fn exactly_once()
 /// Duplicates agree: whatever happened, the answers of each attempt are the first ones that its invocation has decided.
 pub fn duplicates_agree()
     ensures { AfterEvents DuplicatesAgree }
+{}
+
+/// Ended invocations are left alone: once an invocation has its Finish, no step of an attempt of it, and no store call whose
+/// answer is lost, changes a version, the fence of a key, the floor or a named value, but for a value that stands in its record
+/// too; no step record of it that was sent becomes live; and only such attempts are told that the store has dropped something.
+pub fn ended_are_left()
+    ensures { AfterEvents EndedAreLeft }
+{}
+
+/// Economy of the log: an invocation that has ended has two step records, and one for each operation that isn't free. In mode T
+/// none is free, in mode R reads of objects are, and in mode W writes are, but for those that were late.
+pub fn ended_are_economic()
+    ensures { AfterEvents EndedAreEconomic }
+{}
+
+/// What the store holds: each key, version and name once, no version below the floor, and no named value whose write lies below
+/// the floor; so of an invocation with its Finish below the floor no named value at all.
+pub fn held_once()
+    ensures { AfterEvents HeldOnce }
+{}
+
+/// Decided answers stay: an event that puts in a version orders nothing, and changes no answer that an invocation has decided,
+/// but for the value of a marker, its last step record, that no attempt has adopted.
+pub fn decided_answers_stay()
+    ensures { AfterEvents DecidedAnswersStay }
 {}
 
 /// Decided reads stay: a version put in at an old position changes no decided answer but that of a marker that nobody has
