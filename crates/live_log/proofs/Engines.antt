@@ -3,10 +3,12 @@ use Rattle.std.proofs.Common.{◌==◌, cond, Bool, true, false, ◌≡◌, ◌�
 use Rattle.std.proofs.lemmas.Bool.Decides.{nat_tests}
 use mathlib.Core.List.{IsPrefix}
 use Rattle.live_log.specs.Appended.{Appended}
-use Rattle.live_log.specs.declared.hall.Followed.{Followed}
-use Rattle.live_log.specs.declared.hall.Followed.TheVariants.{Done, Refused, Memory}
+use Rattle.live_log.specs.declared.hall.Entered.{Entered}
+use Rattle.live_log.specs.declared.hall.Entered.TheVariants.{Done, Refused, Memory}
+use Rattle.std.specs.declared.snapshot.Snapshot.{Snapshot}
+use Rattle.lb_base.specs.declared.value.Record.{Record}
 use Rattle.live_log.specs.Ends.{Placed}
-use Rattle.live_log.specs.Engines.{records_in, entry, EachStands, Rising, after_of, IsSound}
+use Rattle.live_log.specs.Engines.{kept, records_in, EachStands, Rising, after_of, IsSound}
 use Rattle.live_log.proofs.Lists.{prefix_get, prefix_trans, prefix_self, prefix_length}
 
 pub get_last : {A : Type 0} (xs : List A) (x : A) → slice_get (xs ++ x ∷ []) (length xs) ≡ Some x
@@ -55,10 +57,10 @@ module _ (who : ℕ) (seen known copied : List Appended) (mine : List (ℕ × Ap
   }
 
   -- it appended to the list, which went on from what it knew
-  pub sound_own : (list : List Appended) (value : ℕ) → IsPrefix known list
-      → IsSound who seen (list ++ entry who value ∷ []) copied (mine ++ (length list, entry who value) ∷ []) parts (amount + 1)
-  sound_own list value p =
-      let x : Appended = entry who value in
+  pub sound_own : (list : List Appended) (rec : Record) → IsPrefix known list
+      → IsSound who seen (list ++ (who, rec) ∷ []) copied (mine ++ (length list, (who, rec)) ∷ []) parts (amount + 1)
+  sound_own list rec p =
+      let x : Appended = (who, rec) in
       let more : IsPrefix known (list ++ x ∷ []) = prefix_trans known list (list ++ x ∷ []) p (x ∷ [], refl) in record {
         copied_is = s.copied_is;
         seen_is = prefix_trans seen known (list ++ x ∷ []) s.seen_is more;
@@ -69,7 +71,7 @@ module _ (who : ℕ) (seen known copied : List Appended) (mine : List (ℕ × Ap
         counted = omega (arith, s.counted, length-append mine ((length list, x) ∷ []));
       }
 
-  pub sound_entered : (r : Followed) (p : Placed) (copy : List Appended)
+  pub sound_entered : (r : Entered) (p : Placed) (copy : List Appended)
       → (r ≡ Refused → (p.seen ≡ seen) × (p.known ≡ known) × (copy ≡ copied))
       → (r ≢ Refused → IsPrefix known p.seen × (p.known ≡ p.seen))
       → IsPrefix copy p.seen → IsSound who p.seen p.known copy mine parts amount
@@ -77,16 +79,20 @@ module _ (who : ℕ) (seen known copied : List Appended) (mine : List (ℕ × Ap
   sound_entered Done p copy same new c = let n = new (λ e. cc) in rw n.1 (sound_seen p.seen copy n.0 c)
   sound_entered Memory p copy same new c = let n = new (λ e. cc) in rw n.1 (sound_seen p.seen copy n.0 c)
 
-  pub sound_appended : {E : Type 0} (r : Result ℕ E) (P : Type 0) (p0 p : Placed) (list list' : List Appended) (value : ℕ) (mine' : List (ℕ × Appended)) (parts' amount' : ℕ)
+  -- each own append stands in the list that was seen
+  pub stands_entered : (p : Placed) → IsPrefix known p.seen → EachStands p.seen mine
+  stands_entered p begins = each_longer known p.seen mine begins s.stands
+
+  pub sound_appended : {E : Type 0} (r : Result ℕ E) (P : Type 0) (p0 p : Placed) (list list' : List Appended) (rec : Record) (mine' : List (ℕ × Appended)) (parts' amount' : ℕ)
       → p0.seen ≡ seen → p0.known ≡ known
-      → IfOk r (λ n. (list' ≡ list ++ entry who value ∷ []) × (n ≡ length list') × IsPrefix p0.known list × (p ≡ record p0 { known = list' }) × (mine' ≡ mine ++ (length list, entry who value) ∷ []) × (amount' ≡ amount + 1))
+      → IfOk r (λ n. (list' ≡ list ++ (who, rec) ∷ []) × (n ≡ length list') × IsPrefix p0.known list × (p ≡ record p0 { known = list' }) × (mine' ≡ mine ++ (length list, (who, rec)) ∷ []) × (amount' ≡ amount + 1))
       → OnErr r P → (P → (mine' ≡ mine) × (amount' ≡ amount) × (p ≡ p0))
       → parts' ≡ parts → IsSound who p.seen p.known copied mine' parts' amount'
-  sound_appended (Ok n) P p0 p list list' value mine' parts' amount' vs vk ok err from same =
+  sound_appended (Ok n) P p0 p list list' rec mine' parts' amount' vs vk ok err from same =
       let t : p.seen ≡ seen = ap (λ (q : Placed). q.seen) ok.3 ∙ vs in
-      let k : p.known ≡ list ++ entry who value ∷ [] = ap (λ (q : Placed). q.known) ok.3 ∙ ok.0 in
-      rw (t, k, ok.4, ok.5, same) (sound_own list value (subst (λ (l : List Appended). IsPrefix l list) vk ok.2))
-  sound_appended (Err e) P p0 p list list' value mine' parts' amount' vs vk ok err from same =
+      let k : p.known ≡ list ++ (who, rec) ∷ [] = ap (λ (q : Placed). q.known) ok.3 ∙ ok.0 in
+      rw (t, k, ok.4, ok.5, same) (sound_own list rec (subst (λ (l : List Appended). IsPrefix l list) vk ok.2))
+  sound_appended (Err e) P p0 p list list' rec mine' parts' amount' vs vk ok err from same =
       let f = from err in
       let t : p.seen ≡ seen = ap (λ (q : Placed). q.seen) f.2 ∙ vs in
       let k : p.known ≡ known = ap (λ (q : Placed). q.known) f.2 ∙ vk in
@@ -108,12 +114,21 @@ tally_more t t' who xs x is one others at n low high =
     let test : (who == n) ≡ (x.0 == n) = ap (λ m. m == n) (sym is) in
     tally_at (t n) (t' n) n who (records_in n xs) (x.0 == n) test here (others n) (at n low high) ∙ sym (records_more n xs x)
 
-pub known_grows : (r : Followed) (p q : Placed) → (r ≡ Refused → q ≡ p) → (r ≢ Refused → IsPrefix p.known q.seen × (q.known ≡ q.seen)) → IsPrefix p.known q.known
+pub known_grows : (r : Entered) (p q : Placed) → (r ≡ Refused → q ≡ p) → (r ≢ Refused → IsPrefix p.known q.seen × (q.known ≡ q.seen)) → IsPrefix p.known q.known
 known_grows Refused p q same new = rw (same refl) (prefix_self p.known)
 known_grows Done p q same new = let n = new (λ e. cc) in rw n.1 n.0
 known_grows Memory p q same new = let n = new (λ e. cc) in rw n.1 n.0
 
-pub seen_grows : (r : Followed) (p q : Placed) → IsPrefix p.seen p.known → (r ≡ Refused → q ≡ p) → (r ≢ Refused → IsPrefix p.known q.seen × (q.known ≡ q.seen)) → IsPrefix p.seen q.seen
+pub seen_grows : (r : Entered) (p q : Placed) → IsPrefix p.seen p.known → (r ≡ Refused → q ≡ p) → (r ≢ Refused → IsPrefix p.known q.seen × (q.known ≡ q.seen)) → IsPrefix p.seen q.seen
 seen_grows Refused p q s same new = rw (same refl) (prefix_self p.seen)
 seen_grows Done p q s same new = prefix_trans p.seen p.known q.seen s (new (λ e. cc)).0
 seen_grows Memory p q s same new = prefix_trans p.seen p.known q.seen s (new (λ e. cc)).0
+
+pub kept_more : (ps : List (ℕ × Snapshot Appended)) (p : ℕ × Snapshot Appended) → kept (ps ++ p ∷ []) ≡ kept ps ++ (p.0, p.1.value) ∷ []
+kept_more [] p = refl
+kept_more (q ∷ ps) p = ap (λ l. (q.0, q.1.value) ∷ l) (kept_more ps p)
+
+-- what holds at all holds of what was answered
+pub if_ok : {T E P : Type 0} (r : Result T E) → P → IfOk r (λ _. P)
+if_ok (Ok x) p = p
+if_ok (Err e) p = tt

@@ -4,3 +4,4 @@ pub mod Rules
 pub mod Numbers
 pub mod Engines
 pub mod Settling
+pub mod Indexed

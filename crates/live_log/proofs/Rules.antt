@@ -55,10 +55,10 @@ merges seat v other w x views h at apart there =
     keeps_set x (set views seat w) other None (keeps_set x views seat w h note) tt
 
 -- one step more is published
-pub publishes : (seat : ℕ) (v : Option Known) (x next : Reached) (s : Step) → next ≡ applied x s → s.front ≡ record { book = x.front.book; log = x.front.log ++ s.entry ∷ [] } → TurnsAt Keeps seat v x next Looks
+pub publishes : (seat : ℕ) (v : Option Known) (x next : Reached) (s : Step) → next ≡ applied x s → s.front ≡ record { book = x.front.book; log = x.front.log ++ s.item ∷ [] } → TurnsAt Keeps seat v x next Looks
 publishes seat v x next s n f =
-    let front : next.front ≡ record { book = x.front.book; log = x.front.log ++ s.entry ∷ [] } = ap (λ (r : Reached). r.front) n ∙ f in
-    rises seat v x next (λ e. ap (λ (r : Reached). r.list) n ∙ ap (λ l. l ++ s.entry ∷ []) e ∙ sym (ap (λ (k : Known). k.log) front)) (sym (ap (λ (k : Known). k.book) front), (s.entry ∷ [], sym (ap (λ (k : Known). k.log) front)))
+    let front : next.front ≡ record { book = x.front.book; log = x.front.log ++ s.item ∷ [] } = ap (λ (r : Reached). r.front) n ∙ f in
+    rises seat v x next (λ e. ap (λ (r : Reached). r.list) n ∙ ap (λ l. l ++ s.item ∷ []) e ∙ sym (ap (λ (k : Known). k.log) front)) (sym (ap (λ (k : Known). k.book) front), (s.item ∷ [], sym (ap (λ (k : Known). k.log) front)))
 
 -- the same list is published again
 pub again : (seat : ℕ) (v : Option Known) (x next : Reached) → next ≡ x → TurnsAt Keeps seat v x next Looks

@@ -1,7 +1,7 @@
 -- What an engine has seen, was told and appended.
 use Rattle.std.specs.Prelude.{◌==◌, cond, ◌≡◌, ℕ, ◌+◌, ◌≤◌, List, [], ◌∷◌, length, take, slice_get, Some}
 use mathlib.Core.List.{IsPrefix}
-use Rattle.core.specs.declared.snapshot.Snapshot.{Snapshot}
+use Rattle.std.specs.declared.snapshot.Snapshot.{Snapshot}
 use Rattle.eng_index.specs.Shown.{Kept, Shows}
 use Rattle.live_log.specs.Appended.{Appended, log_of}
 

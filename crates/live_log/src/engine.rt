@@ -153,6 +153,7 @@ impl<J: Naming> LiveEngine<J> {
     pub fn catch_up<D: Door>(&mut self, door: &mut D) -> Result<u64, LiveFault>
         ensures counted { D.refusals door.old ≤ D.refusals door.new }
         ensures ok { IfOk result (λ n. (n ≡ self.new.at) × (self.new.at ≡ length self.new.seen) × IsPrefix self.old.known self.new.seen × (self.new.known ≡ self.new.seen)) }
+        ensures own { IfOk result (λ _. EachStands self.new.seen self.new.mine) }
         ensures refused { IfErr result (λ e. e ≡ LiveFault.Refused → Rose (D.refusals door.old) (D.refusals door.new) × (self.new ≡ self.old)) }
         ensures known { IsPrefix self.old.known self.new.known }
         ensures grows { IsPrefix self.old.seen self.new.seen × (self.old.at ≤ self.new.at) × (self.new.at ≤ length self.new.seen) }

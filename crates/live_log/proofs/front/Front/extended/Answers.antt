@@ -18,5 +18,5 @@ compare_exchange-found-requires c =
       search rules,
       search rules,
       offer.0,
-      rw (ap (λ w. w.key) h, pen.1, offer.1, offer.3) (adds_moves both c.args.entry.now c.self.inside.count le),
+      rw (ap (λ w. w.key) h, pen.1, offer.1, offer.3) (adds_moves both c.args.item.now c.self.inside.count le),
     )

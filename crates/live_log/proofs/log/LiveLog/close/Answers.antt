@@ -9,7 +9,7 @@ pub returns-in-None-clause-list : goal.returns-in-None-clause-list
 returns-in-None-clause-list g c =
     let es : List Engine = c.args.engines.items in
     let fs : List Engine = c.catch_engines.new.engines.items in
-    let list : List Appended = c.take-list.result.0.items in
+    let list : List Appended = c.take-list.result.0 in
     let desk : c.into_inner-desk.result ≡ list = search rules in
     let slice : c.as_slice.result.now ≡ list = search rules in
     let caught : Each2 (Caught list) es fs = subst (λ (l : List Appended). Each2 (Caught l) es fs) desk (c.in-Ok.ensures.caught refl) in
