@@ -1,7 +1,6 @@
 -- What an engine has seen, was told and appended.
-use Rattle.std.specs.Prelude.{◌==◌, cond, ◌≡◌, ℕ, ◌+◌, ◌≤◌, List, [], ◌∷◌, length, take, slice_get, Some}
+use Rattle.std.specs.Prelude.{◌==◌, cond, ◌≡◌, ℕ, ◌+◌, ◌<◌, ◌≤◌, List, [], ◌∷◌, length, take, slice_get, Option, Some, None}
 use mathlib.Core.List.{IsPrefix}
-use Rattle.std.specs.declared.snapshot.Snapshot.{Snapshot}
 use Rattle.eng_index.specs.Shown.{Kept, Shows}
 use Rattle.live_log.specs.Appended.{Appended, log_of}
 
@@ -14,10 +13,19 @@ pub record Engine : Type 0 where
   pub at : ℕ
   pub mine : List (ℕ × Appended)
 
--- an engine's own appends, of which it keeps the places alone
-abbrev pub kept : List (ℕ × Snapshot Appended) → List (ℕ × Appended)
-kept [] = []
-kept (p ∷ ps) = (p.0, p.1.value) ∷ kept ps
+-- a place, where a record stands there
+abbrev pub stood : ℕ → Option Appended → List (ℕ × Appended) → List (ℕ × Appended)
+stood place None rest = rest
+stood place (Some x) rest = (place, x) ∷ rest
+
+-- an engine's own appends: it keeps their places, and the records stand there in the list that it knows
+abbrev pub picked : List Appended → List ℕ → List (ℕ × Appended)
+picked known [] = []
+picked known (place ∷ places) = stood place (slice_get known place) (picked known places)
+
+abbrev pub EachBelow : ℕ → List ℕ → Type 0
+EachBelow n [] = Unit {0}
+EachBelow n (place ∷ places) = (place < n) × EachBelow n places
 
 -- the index has the first records of the copy, as many as it has marks
 pub record IsIndexed (copied : List Appended) (index : Kept) : Type 0 where
@@ -48,6 +56,11 @@ pub record IsSound (who : ℕ) (seen known copied : List Appended) (mine : List 
   pub stands : EachStands known mine
   pub one_part : parts ≡ 1
   pub counted : amount ≡ length mine
+
+-- an engine that keeps the places of its appends
+pub record IsOwn (who : ℕ) (seen known copied : List Appended) (places : List ℕ) (parts amount : ℕ) : Type 0 where
+  pub sound : IsSound who seen known copied (picked known places) parts amount
+  pub placed : EachBelow (length known) places
 
 -- how many records of this engine a list has
 abbrev pub records_in : ℕ → List Appended → ℕ

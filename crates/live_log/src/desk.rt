@@ -1,7 +1,7 @@
 //! What lies under the lock: the writer, and the ledgers of all appends.
 ghost use Rattle.std.specs.Prelude.{◌≡◌, ◌+◌, ◌<◌, ◌≤◌, ◌++◌, ◌∷◌, [], length, ℕ, vec_len, vec_capacity, IfOk, OnErr};
 ghost use mathlib.Core.List.{IsPrefix};
-ghost use Rattle.live_log.specs.Engines.{kept, records_in};
+ghost use Rattle.live_log.specs.Engines.{records_in};
 ghost use Rattle.live_log.specs.Tallies.{number_of, count_of, parts_of, total_at};
 
 use crate::appended::Appended;
@@ -10,13 +10,12 @@ use crate::naming::Naming;
 use crate::tallies::{Right, Tallies};
 use lb_base::{List, Memory, Record};
 use std::marker::Model;
-use std::snapshot::Snapshot;
 use std::sync::Wait;
 
-/// An engine's own appends, by their places from 0, and its right to append.
+/// The places of an engine's own appends, from 0, and its right to append.
 #[derive(Drop)]
 pub(crate) struct Own<J: Naming> {
-    pub mine: Vec<(u64, Snapshot<Appended>)>,
+    pub mine: Vec<u64>,
     pub right: Right<J>,
 }
 
@@ -64,17 +63,15 @@ impl<J: Naming> Desk<J> {
         requires place { place.old.book ≡ J.book }
         requires room { vec_len own.old.mine < vec_capacity own.old.mine }
         requires right { (parts_of own.old.right ≡ 1) × (number_of own.old.right ≡ who) × (who ≤ J.engines) }
-        ensures ok { IfOk result (λ n. (self.new ≡ self.old ++ (who, rec) ∷ []) × (n ≡ length self.new) × IsPrefix place.old.known self.old × (place.new ≡ record place.old { known = self.new }) × (kept own.new.mine.items ≡ kept own.old.mine.items ++ (length self.old, (who, rec)) ∷ []) × (count_of own.new.right ≡ count_of own.old.right + 1)) }
+        ensures ok { IfOk result (λ n. (self.new ≡ self.old ++ (who, rec) ∷ []) × (n ≡ length self.new) × IsPrefix place.old.known self.old × (place.new ≡ record place.old { known = self.new }) × (own.new.mine.items ≡ own.old.mine.items ++ length self.old ∷ []) × (count_of own.new.right ≡ count_of own.old.right + 1)) }
         ensures err { OnErr result ((self.new ≡ self.old) × (own.new ≡ own.old) × (place.new ≡ place.old)) }
         ensures book { place.new.book ≡ place.old.book }
         ensures right { (parts_of own.new.right ≡ 1) × (number_of own.new.right ≡ who) }
     {
         let at = self.hall.len();
-        let item = (who, rec);
-        let about = Snapshot::of(&item);
-        self.hall.publish(rt, item, place)?;
+        self.hall.publish(rt, (who, rec), place)?;
         self.tally.add(&mut own.right);
-        own.mine.push_reserved((at, about));
+        own.mine.push_reserved(at);
         Ok(self.hall.len())
     }
 

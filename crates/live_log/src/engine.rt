@@ -37,14 +37,14 @@ pub struct LiveEngine<J: Naming> {
 
 impl<J: Naming> Model for LiveEngine<J> {
     ghost use Rattle.std.specs.Prelude.{◌≡◌, ◌≤◌, length};
-    ghost use Rattle.live_log.specs.Engines.{Engine, IsSound, IsIndexed, kept};
+    ghost use Rattle.live_log.specs.Engines.{Engine, IsOwn, IsIndexed, picked};
     ghost use Rattle.live_log.specs.Tallies.{number_of, count_of, parts_of};
 
     ghost Value = { Engine };
 
-    ghost view = { λ e. record { number = e.number; seen = e.place.seen; known = e.place.known; at = length e.index.marks; mine = kept e.own.mine.items } };
+    ghost view = { λ e. record { number = e.number; seen = e.place.seen; known = e.place.known; at = length e.index.marks; mine = picked e.place.known e.own.mine.items } };
 
-    ghost invariant = { λ e. (e.place.book ≡ J.book) × IsSound e.number e.place.seen e.place.known e.copy (kept e.own.mine.items) (parts_of e.own.right) (count_of e.own.right) × (number_of e.own.right ≡ e.number) × (e.number ≤ J.engines) × IsIndexed e.copy e.index };
+    ghost invariant = { λ e. (e.place.book ≡ J.book) × IsOwn e.number e.place.seen e.place.known e.copy e.own.mine.items (parts_of e.own.right) (count_of e.own.right) × (number_of e.own.right ≡ e.number) × (e.number ≤ J.engines) × IsIndexed e.copy e.index };
 }
 
 // Adds the records of the copy that the index lacks, or as many as there is room for, and answers how many the copy has.

@@ -1,9 +1,8 @@
-use Rattle.std.proofs.Common.{rules, ◌≤◌, ◌≡◌, ◌≢◌, ◌+◌, ◌++◌, ◌∷◌, [], ℕ, List, refl, ap, ◌∙◌, subst}
+use Rattle.std.proofs.Common.{rules, ◌≤◌, ◌≡◌, ◌≢◌, ◌+◌, ◌++◌, ◌∷◌, [], ℕ, List, refl, ◌∙◌, subst}
 use Rattle.live_log.specs.Tallies.{total_at, number_of}
-use Rattle.live_log.specs.Engines.{kept}
 use Rattle.live_log.proofs.Numbers.{number_range}
 use Rattle.live_log.specs.Appended.{Appended}
-use Rattle.live_log.proofs.Engines.{kept_more, tally_more}
+use Rattle.live_log.proofs.Engines.{tally_more}
 use Rattle.live_log.proofs.Settling.{each_by_more}
 use Rattle.live_log.proofs.desk.Desk.append.Goals as goal
 
@@ -18,10 +17,3 @@ invariant_of-self-2 g c =
     let one : total_at c.add.new.self c.args.who ≡ total_at c.self.inside.tally c.args.who + 1 = subst (λ (n : ℕ). total_at c.add.new.self n ≡ total_at c.self.inside.tally n + 1) who a.counted in
     let others = λ (n : ℕ) (ne : n ≢ c.args.who). a.others n (λ e. ne (e ∙ who)) in
     (search rules, (λ n low high. rw shown (tally_more (λ n. total_at c.self.inside.tally n) (λ n. total_at c.add.new.self n) c.args.who xs x refl one others i.1 n low high)), rw shown (each_by_more g.J.Naming.engines xs x i.2 (subst (λ (n : ℕ). 1 ≤ n) who (number_range c.args.own.now.right).0) c.requires.right.2))
-
-pub returns-clause-ok : goal.returns-clause-ok
-returns-clause-ok g c =
-    let before = c.args.own.now.mine.items in
-    let pushed : c.push_reserved.new.self.items ≡ before ++ (c.len-at.result, c.of-about.result) ∷ [] = search rules in
-    let mine : kept c.push_reserved.new.self.items ≡ kept before ++ (c.len-at.result, c.of-about.result.value) ∷ [] = ap kept pushed ∙ kept_more before (c.len-at.result, c.of-about.result) in
-    search (rules, mine)
