@@ -1,0 +1,4 @@
+pub mod Ascending
+pub mod Kept
+pub mod StandsFor
+pub mod Sweeps
