@@ -1,11 +1,11 @@
 -- Lists of writes in the order of their positions, and searches of them.
-use Rattle.std.proofs.Common.{◌≡◌, ℕ, zero, suc, ◌+◌, ◌-◌, ◌<◌, ◌≤◌, ltb, leb, eqb, Bool, true, false, cond, ◌&&◌, ◌||◌, List, [], ◌∷◌, length, get_or, slice_get, filter, Option, Some, None, refl, sym, ap, ◌∙◌, subst, arith, insert}
+use Rattle.std.proofs.Common.{◌≡◌, ℕ, zero, suc, ◌+◌, ◌-◌, ◌<◌, ◌≤◌, ltb, leb, eqb, Bool, true, false, cond, ◌&&◌, ◌||◌, List, [], ◌∷◌, length, get_or, slice_get, filter, Option, Some, None, refl, sym, ap, ◌∙◌, subst, arith, insert, remove}
 use Rattle.std.specs.List.{prefix_len}
 use Rattle.std.specs.List.Sorted.{IsPartitionPoint, IsPartitionedBy}
 use Rattle.std.proofs.lemmas.List.Sums.{prefix_len_is}
 use Rattle.std.proofs.lemmas.Bool.Decides.{nat_tests}
 use Rattle.boki_model.specs.Writes.{Write, is_below, later, last_below}
-use Rattle.obj_store.specs.Ascending.{AllAbove, Ascend, before_count, has_at}
+use Rattle.obj_store.specs.Ascending.{AllAbove, Ascend, before_count, has_at, not_below}
 use Rattle.obj_store.specs.Kept.{put_in, in_order}
 use Rattle.obj_store.proofs.Positions.{below_trans, below_up, not_both}
 
@@ -161,3 +161,23 @@ found_some c k o w b e to from = at b (eqb c w.first && eqb k w.second) refl ref
         let f : c ≡ w.first = grind (arith, nat_tests) in
         let s : k ≡ w.second = grind (arith, nat_tests) in
         absurd (let n : true ≡ false = sym (from (f, s)) ∙ h in let m : ⊥ = cc in m)
+
+-- the last one below a floor is taken out
+
+pub slice_get_at : (ws : List Write) (i : ℕ) (w : Write) → i < length ws → w ≡ get_or ws i w → slice_get ws i ≡ Some w
+slice_get_at [] i w lt e = absurd (let h : ⊥ = omega arith in h)
+slice_get_at (v ∷ vs) zero w lt e = ap Some (sym e)
+slice_get_at (v ∷ vs) (suc i) w lt e = slice_get_at vs i w (omega arith) e
+
+dropped : (f : ℕ) (w : Write) → is_below w.first w.second f 0 ≡ true → leb f w.first ≡ false
+dropped f w h = grind (arith, nat_tests)
+
+pub filter_removed : (f : ℕ) (ws : List Write) (i : ℕ) → i < before_count f 0 ws → not_below f (remove ws i) ≡ not_below f ws
+filter_removed f [] i lt = absurd (let h : ⊥ = omega arith in h)
+filter_removed f (w ∷ ws) i lt = at (is_below w.first w.second f 0) refl i lt (filter_removed f ws)
+  where
+    at : (b : Bool) → is_below w.first w.second f 0 ≡ b → (i : ℕ) → i < cond b (1 + before_count f 0 ws) 0
+        → ((i : ℕ) → i < before_count f 0 ws → not_below f (remove ws i) ≡ not_below f ws) → not_below f (remove (w ∷ ws) i) ≡ not_below f (w ∷ ws)
+    at true e zero lt ih = sym (ap (λ b. cond b (w ∷ not_below f ws) (not_below f ws)) (dropped f w e))
+    at true e (suc i) lt ih = ap (λ l. cond (leb f w.first) (w ∷ l) l) (ih i (omega arith))
+    at false e i lt ih = absurd (let h : ⊥ = omega arith in h)

@@ -1,5 +1,5 @@
 -- Writes in the order of their positions.
-use Rattle.std.specs.Prelude.{◌≡◌, ℕ, ◌==◌, ◌&&◌, ◌||◌, Bool, true, false, cond, List, [], ◌∷◌}
+use Rattle.std.specs.Prelude.{◌≡◌, ℕ, ◌==◌, ◌&&◌, ◌||◌, Bool, true, false, cond, nat_le, filter, List, [], ◌∷◌}
 use Rattle.std.specs.List.{prefix_len}
 use Rattle.lb_base.specs.declared.value.Value.{Value}
 use Rattle.boki_model.specs.Writes.{Write, is_below}
@@ -26,3 +26,7 @@ has_at c k (w ∷ ws) = ((c == w.first) && (k == w.second)) || has_at c k ws
 -- the value of a write, or of a logged one at a seqnum, where this is later
 abbrev pub last_value : Write → ℕ → Value → Value
 last_value w seq value = cond (is_below w.first w.second seq 0) value w.value
+
+-- those that aren't below a floor
+abbrev pub not_below : ℕ → List Write → List Write
+not_below floor ws = filter (λ w. nat_le floor w.first) ws

@@ -106,7 +106,7 @@ pub fn initial(alloc: Global, values: &[(Words, Value)]) -> Result<Objects, Memo
 pub fn keys(objects: &Objects, alloc: Global) -> Result<List<Words>, Memory> {
     let mut keys = Vec::new(alloc);
     for (key, object) in objects {
-        if !object.is_blank() {
+        if !object.is_empty() {
             keys.push(key.clone()?)?;
         }
     }

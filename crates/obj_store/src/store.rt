@@ -175,7 +175,7 @@ impl ObjStore {
     /// The fence of an object.
     pub fn fence(&self, key: &str) -> Seqnum {
         match self.objects.get(Key { text: key }) {
-            Some(object) => Seqnum(object.fence),
+            Some(object) => Seqnum(object.fence()),
             None => Seqnum(0),
         }
     }

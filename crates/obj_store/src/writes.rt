@@ -2,7 +2,7 @@
 
 ghost use Rattle.std.specs.Prelude.{◌≡◌, ◌↔◌, ℕ, suc, ◌<◌, ◌≤◌, ◌==◌, nat_lt, nat_le, length, filter, option_map, option_copied, slice_get, IsTrue};
 ghost use Rattle.boki_model.specs.Writes.{Write, is_below, last_below};
-ghost use Rattle.obj_store.specs.Ascending.{Ascend, before_count, has_at, last_value};
+ghost use Rattle.obj_store.specs.Ascending.{Ascend, before_count, has_at, last_value, not_below};
 
 use lb_base::{Seqnum, Value};
 use std::marker::Model;
@@ -121,6 +121,25 @@ pub fn last_upto(writes: &[Placed], last: u64) -> Option<&Placed>
         return None;
     }
     write_at(writes, count - 1)
+}
+
+/// Takes the last write below the floor out, where they stand in order; the writes at or above the floor stay.
+pub fn pop_below(writes: &mut Vec<Placed>, floor: u64) -> Option<Placed>
+    ensures last { Ascend writes.old.items → result ≡ last_below floor 0 writes.old.items }
+    ensures rest { Ascend writes.old.items → not_below floor writes.new.items ≡ not_below floor writes.old.items }
+{
+    let count = place_of(writes.as_slice(), floor, 0);
+    if count == 0 {
+        return None;
+    }
+    Some(writes.remove(count - 1))
+}
+
+/// Drops the writes below the floor.
+pub fn keep_from(writes: &mut Vec<Placed>, floor: u64)
+    ensures { writes.new.items ≡ not_below floor writes.old.items }
+{
+    writes.retain(|write| floor <= write.first());
 }
 
 /// How many of the writes have just this first number, where they stand in order.
