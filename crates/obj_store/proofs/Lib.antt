@@ -1,2 +1,4 @@
 pub mod Positions
 pub mod InOrder
+pub mod Entries
+pub mod Passing

@@ -1,6 +1,6 @@
 -- What an object store keeps.
-use Rattle.std.specs.Prelude.{◌≡◌, ℕ, ◌+◌, ◌==◌, ◌&&◌, Bool, cond, nat_le, List, [], ◌∷◌, length, map, filter, sum_by, bytes_eq, Option, Some, None, unwrap_or}
-use Rattle.std.specs.Map.{lookup}
+use Rattle.std.specs.Prelude.{◌≡◌, ℕ, ◌+◌, ◌==◌, ◌&&◌, Bool, cond, nat_le, List, [], ◌∷◌, length, map, filter, sum_by, bytes_eq, Option, Some, None, unwrap_or, is_some}
+use Rattle.std.specs.Map.{lookup, values_of}
 use Rattle.lb_base.specs.declared.value.Value.{Value}
 use Rattle.boki_types.specs.declared.store.Name.{Name}
 use Rattle.boki_model.specs.Writes.{Write, is_below, later}
@@ -59,4 +59,7 @@ abbrev pub count_of : KeptObject → ℕ
 count_of object = base_count object.base + length object.versions
 
 abbrev pub total : List (List ℕ × KeptObject) → ℕ
-total objects = sum_by (λ e. count_of e.1) objects
+total objects = sum_by count_of (values_of objects)
+
+abbrev pub has_key : List ℕ → List (List ℕ × KeptObject) → Bool
+has_key key objects = is_some (lookup (bytes_eq key) objects)

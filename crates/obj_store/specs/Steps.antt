@@ -1,11 +1,14 @@
 -- What the calls do with one object.
-use Rattle.std.specs.Prelude.{◌≡◌, ℕ, Bool, true, false, cond, nat_le, nat_lt, List, [], ◌∷◌, filter, bytes_eq, Option, Some, None}
+use Rattle.std.specs.Prelude.{◌≡◌, ℕ, Bool, true, false, cond, nat_le, nat_lt, List, [], ◌∷◌, filter, length, max, ◌+◌, ◌==◌, ◌||◌, bytes_eq, Option, Some, None}
+use Rattle.std.specs.List.{IsDistinct}
+use Rattle.std.specs.Map.{keys_of}
 use Rattle.boki_model.specs.Reads.{or_else}
 use Rattle.boki_model.specs.Writes.{Write, later, last_below}
 use Rattle.obj_store.specs.declared.object.Case.{Case}
 use Rattle.obj_store.specs.declared.object.Case.TheVariants as s
 use Rattle.obj_store.specs.Ascending.{has_at, not_below}
-use Rattle.obj_store.specs.Kept.{KeptObject}
+use Rattle.obj_store.specs.declared.objects.Passed.{Passed}
+use Rattle.obj_store.specs.Kept.{KeptObject, object_in, has_key, count_of, total, put_in}
 
 abbrev pub case_by : Bool → Bool → Case
 case_by true fenced = s.There
@@ -23,6 +26,38 @@ settled_at floor object = record object {
   versions = not_below floor object.versions;
 }
 
--- the base after logged writes, each with the key of its object, were made the base in turn
-abbrev pub lifted_by : List ℕ → List ℕ → Write → Option Write → Option Write
-lifted_by key of w base = cond (bytes_eq key of) (later w base) base
+-- the object of a key after logged writes, each with the key of its object, were made the base in turn
+abbrev pub lifted_one : List ℕ → Passed → KeptObject → KeptObject
+lifted_one key p object = cond (bytes_eq key p.key) (record object { base = later p.write object.base }) object
+
+abbrev pub lifted : List ℕ → List Passed → KeptObject → KeptObject
+lifted key [] object = object
+lifted key (p ∷ ps) object = lifted key ps (lifted_one key p object)
+
+-- whether one of them is of the key
+abbrev pub has_passed : List ℕ → List Passed → Bool
+has_passed key [] = false
+has_passed key (p ∷ ps) = bytes_eq key p.key || has_passed key ps
+
+-- how many versions of an object stand at a cursor
+abbrev pub count_in : ℕ → KeptObject → ℕ
+count_in cursor object = length (filter (λ w. cursor == w.first) object.versions)
+
+abbrev pub raised_to : ℕ → KeptObject → KeptObject
+raised_to at object = record object { fence = max at object.fence }
+
+abbrev pub with_version : Write → KeptObject → KeptObject
+with_version w object = record object { versions = put_in w object.versions }
+
+-- Some keys have new entries that say nothing.
+pub record Widens (old new : List (List ℕ × KeptObject)) : Type 0 where
+  pub objects : (key : List ℕ) → object_in key new ≡ object_in key old
+  pub keys : (key : List ℕ) → has_key key old ≡ true → has_key key new ≡ true
+  pub total : total new ≡ total old
+  pub distinct : IsDistinct bytes_eq (keys_of old) → IsDistinct bytes_eq (keys_of new)
+
+-- One object is another, and the other objects are as they were.
+pub record Changes (key : List ℕ) (f : KeptObject → KeptObject) (old new : List (List ℕ × KeptObject)) : Type 0 where
+  pub objects : (k : List ℕ) → object_in k new ≡ cond (bytes_eq key k) (f (object_in k old)) (object_in k old)
+  pub keys : keys_of new ≡ keys_of old
+  pub total : total new + count_of (object_in key old) ≡ total old + count_of (f (object_in key old))

@@ -5,15 +5,8 @@
 //! position answers the last write below it. A sweep drops what no read at or above the floor can answer.
 #![tactic(auto)]
 
-mod answers;
 mod key;
-mod names;
 mod object;
 mod objects;
-mod store;
-#[cfg(test)]
-mod tests;
 mod writes;
 
-pub use crate::answers::{Logged, Read};
-pub use crate::store::ObjStore;

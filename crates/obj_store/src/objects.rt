@@ -1,5 +1,15 @@
 //! The objects of the store, by their keys.
 
+ghost use Rattle.std.specs.Prelude.{◌≡◌, ◌+◌, ◌<◌, ◌^◌, ℕ, suc, true, bytes_eq, length, [], map, sum_by, slice_get, option_copied, Some, None, IsTrue, IfOk, OnOk, OnErr, List, ◌∷◌};
+ghost use Rattle.std.specs.List.{IsDistinct};
+ghost use Rattle.std.specs.Map.{lookup, keys_of, values_of};
+ghost use Rattle.boki_model.specs.Maps.{has};
+ghost use Rattle.boki_model.specs.Writes.{later};
+ghost use Rattle.indexmap.specs.IndexMap.{set_value_at};
+ghost use Rattle.obj_store.specs.Ascending.{Ascend};
+ghost use Rattle.obj_store.specs.Kept.{KeptObject, object_in, has_key, total};
+ghost use Rattle.obj_store.specs.Steps.{Widens, Changes, raised_to, with_version, settled_at, lifted_one, lifted, has_passed, count_in};
+
 use crate::key::Key;
 use crate::object::Object;
 use crate::writes::Placed;
@@ -17,117 +27,94 @@ pub struct Passed {
     pub write: Placed,
 }
 
-/// Makes an entry for a key that has none.
-pub fn ensure(objects: &mut Objects, alloc: Global, key: &str) -> Result<(), Memory> {
-    if objects.get(Key { text: key }).is_some() {
-        return Ok(());
+/// The object of a key that has an entry.
+pub fn find<'a>(objects: &'a Objects, key: &str) -> Option<&'a Object>
+    ensures { option_copied result ≡ lookup (bytes_eq key.now) objects.now.entries }
+{
+    objects.get(Key { text: key })
+}
+
+/// Makes an entry for a key that has none. After `Memory` each object is as before.
+pub fn ensure(objects: &mut Objects, alloc: Global, key: &str) -> Result<(), Memory>
+    ensures same { Widens objects.old.entries objects.new.entries }
+    ensures there { OnOk result (has_key key.now objects.new.entries ≡ true) }
+{
+    match find(objects, key) {
+        Some(_) => Ok(()),
+        None => add(objects, alloc, key),
     }
+}
+
+// Makes an entry for a key that has none. After `Memory` each object is as before.
+fn add(objects: &mut Objects, alloc: Global, key: &str) -> Result<(), Memory>
+    requires { lookup (bytes_eq key.now) objects.old.entries ≡ None }
+    ensures same { Widens objects.old.entries objects.new.entries }
+    ensures there { OnOk result (has_key key.now objects.new.entries ≡ true) }
+{
     let key = Words::from_text(alloc, key)?;
     objects.insert(key, Object::new(alloc))?;
     Ok(())
 }
 
-/// Makes an entry for each of the keys that has none.
-pub fn ensure_all(objects: &mut Objects, alloc: Global, keys: &[Words]) -> Result<(), Memory> {
+/// Makes an entry for each of the keys that has none. After `Memory` each object is as before.
+pub fn ensure_all(objects: &mut Objects, alloc: Global, keys: &[Words]) -> Result<(), Memory>
+    ensures same { Widens objects.old.entries objects.new.entries }
+    ensures there { OnOk result ((key : List ℕ) → has key keys.now ≡ true → has_key key objects.new.entries ≡ true) }
+{
     for key in keys {
         ensure(objects, alloc, key.as_str())?;
     }
     Ok(())
 }
 
-/// Makes an entry for the object of each of the writes that has none.
-pub fn ensure_passed(objects: &mut Objects, alloc: Global, passed: &[Passed]) -> Result<(), Memory> {
-    for lift in passed {
-        ensure(objects, alloc, lift.key.as_str())?;
+/// Makes an entry for the object of each of the writes that has none. After `Memory` each object is as before.
+pub fn ensure_passed(objects: &mut Objects, alloc: Global, passed: &[Passed]) -> Result<(), Memory>
+    ensures same { Widens objects.old.entries objects.new.entries }
+    ensures there { OnOk result ((key : List ℕ) → has_passed key passed.now ≡ true → has_key key objects.new.entries ≡ true) }
+{
+    for write in passed {
+        ensure(objects, alloc, write.key.as_str())?;
     }
     Ok(())
 }
 
 /// Raises the fence of an object that has an entry.
-pub fn raise(objects: &mut Objects, key: &str, at: Seqnum) {
+pub fn raise(objects: &mut Objects, key: &str, at: Seqnum)
+    requires { has_key key.now objects.old.entries ≡ true }
+    ensures { Changes key.now (raised_to at.0) objects.old.entries objects.new.entries }
+{
     if let Some(object) = objects.get_mut(Key { text: key }) {
         object.raise(at);
     }
 }
 
-/// Raises the fence of each of the objects that has an entry.
-pub fn raise_all(objects: &mut Objects, keys: &[Words], at: Seqnum) {
-    for key in keys {
-        raise(objects, key.as_str(), at);
+/// Puts a version of an object in that has an entry. After `Memory` each object is as before.
+pub fn put(objects: &mut Objects, key: &str, version: Placed) -> Result<(), Memory>
+    requires { has_key key.now objects.old.entries ≡ true }
+    ensures ok { Ascend (object_in key.now objects.old.entries).versions → OnOk result (Changes key.now (with_version version) objects.old.entries objects.new.entries) }
+    ensures err { OnErr result (Widens objects.old.entries objects.new.entries) }
+{
+    if let Some(object) = objects.get_mut(Key { text: key }) {
+        object.put(version)?;
     }
-}
-
-/// Puts a version of an object in that has an entry.
-pub fn put(objects: &mut Objects, key: &str, version: Placed) -> Result<(), Memory> {
-    match objects.get_mut(Key { text: key }) {
-        Some(object) => object.put(version),
-        None => Ok(()),
-    }
+    Ok(())
 }
 
 // Makes the object at a place settle below the floor.
-fn settle_at(objects: &mut Objects, place: usize, floor: Seqnum) {
+fn settle_at(objects: &mut Objects, place: usize, floor: Seqnum)
+    ensures { (e : List ℕ × KeptObject) → slice_get objects.old.entries place ≡ Some e → Ascend e.1.versions → objects.new.entries ≡ set_value_at objects.old.entries place (settled_at floor.0 e.1) }
+{
     if let Some(object) = objects.get_index_mut(place) {
         object.settle(floor);
     }
 }
 
-/// Makes each object settle below the floor.
-pub fn settle_all(objects: &mut Objects, floor: Seqnum) {
-    for place in 0..objects.len() {
-        settle_at(objects, place, floor);
-    }
-}
-
 // Lifts the base of an object that has an entry to a logged write.
-fn lift(objects: &mut Objects, key: &str, write: Placed) {
+fn lift(objects: &mut Objects, key: &str, write: Placed)
+    requires { has_key key.now objects.old.entries ≡ true }
+    ensures { Changes key.now (λ o. record o { base = later write o.base }) objects.old.entries objects.new.entries }
+{
     if let Some(object) = objects.get_mut(Key { text: key }) {
         object.lift(write);
     }
-}
-
-/// Lifts the bases of objects that have entries to logged writes, each in turn.
-pub fn lift_all(objects: &mut Objects, passed: Vec<Passed>) {
-    for Passed { key, write } in passed {
-        lift(objects, key.as_str(), write);
-    }
-}
-
-/// The objects of a store that has these initial objects, whose keys differ.
-pub fn initial(alloc: Global, values: &[(Words, Value)]) -> Result<Objects, Memory> {
-    let mut objects = IndexMap::new(alloc);
-    for (key, value) in values {
-        objects.insert(key.clone()?, Object::initial(alloc, value)?)?;
-    }
-    Ok(objects)
-}
-
-/// The keys of the objects that were written, in the order of their bytes.
-pub fn keys(objects: &Objects, alloc: Global) -> Result<List<Words>, Memory> {
-    let mut keys = Vec::new(alloc);
-    for (key, object) in objects {
-        if !object.is_empty() {
-            keys.push(key.clone()?)?;
-        }
-    }
-    keys.sort()?;
-    Ok(List::from_vec(keys))
-}
-
-/// How many writes the objects keep, or the greatest number of 64 bits where they keep more.
-pub fn count(objects: &Objects) -> u64 {
-    let mut count = 0u64;
-    for object in objects.values() {
-        count = count.saturating_add(object.len());
-    }
-    count
-}
-
-/// How many versions stand at a cursor, or the greatest number of 64 bits where there are more.
-pub fn count_at(objects: &Objects, cursor: Seqnum) -> u64 {
-    let mut count = 0u64;
-    for object in objects.values() {
-        count = count.saturating_add(object.count_at(cursor));
-    }
-    count
 }
