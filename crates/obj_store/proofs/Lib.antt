@@ -2,3 +2,4 @@ pub mod Positions
 pub mod InOrder
 pub mod Entries
 pub mod Passing
+pub mod Fronts

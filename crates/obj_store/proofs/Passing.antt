@@ -1,10 +1,15 @@
 -- Loops over keys, and over the logged writes that a sweep passes.
-use Rattle.std.proofs.Common.{◌≡◌, ℕ, zero, suc, ◌+◌, ◌<◌, Bool, true, false, ◌||◌, List, [], ◌∷◌, ◌++◌, length, take, get_or, bytes_eq, refl, sym, ap, ◌∙◌, subst, arith}
+use Rattle.std.proofs.Common.{◌≡◌, ℕ, zero, suc, ◌+◌, ◌<◌, max, Bool, true, false, cond, ◌||◌, List, [], ◌∷◌, ◌++◌, length, take, get_or, bytes_eq, refl, sym, ap, ◌∙◌, subst, arith}
+use Rattle.std.specs.Cmp.Lexicographic.{nat_list_eq_equiv}
 use Rattle.boki_model.specs.Maps.{has}
+use Rattle.boki_model.specs.Writes.{later}
 use Rattle.obj_store.specs.declared.objects.Passed.{Passed}
-use Rattle.obj_store.specs.Kept.{KeptObject, has_key}
-use Rattle.obj_store.specs.Steps.{has_passed}
-use Rattle.obj_store.proofs.Entries.{same_key}
+use Rattle.obj_store.specs.Kept.{KeptObject, object_in, has_key}
+use Rattle.obj_store.specs.Steps.{Changes, Raises, Lifts, raised_to, lifted, lifted_one, has_passed}
+use Rattle.obj_store.proofs.Entries.{same_key, key_itself}
+
+lists_flip : (k q : List ℕ) → bytes_eq k q ≡ bytes_eq q k
+lists_flip k q = nat_list_eq_equiv.symm k q
 
 has_take : (k : List ℕ) (keys : List (List ℕ)) (i : ℕ) (d : List ℕ) → i < length keys → has k (take (i + 1) keys) ≡ true → (has k (take i keys) ≡ true → ⊥) → k ≡ get_or keys i d
 has_take k [] i d lt h fresh = absurd (let n : ⊥ = omega arith in n)
@@ -57,3 +62,72 @@ pub passed_more : (ps : List Passed) (i : ℕ) (d : Passed) → i < length ps �
 passed_more ps i d lt es fs keeps there here k h =
     decided (has_passed k (take i ps)) (has_key k fs ≡ true) (λ e. keeps k (there k e))
     (λ fresh. subst (λ (q : List ℕ). has_key q fs ≡ true) (sym (passed_take k ps i d lt h fresh)) here)
+
+pub has_at_place : (keys : List (List ℕ)) (i : ℕ) (d : List ℕ) → i < length keys → has (get_or keys i d) keys ≡ true
+has_at_place [] i d lt = absurd (let n : ⊥ = omega arith in n)
+has_at_place (x ∷ xs) zero d lt = ap (λ b. b || has x xs) (key_itself x)
+has_at_place (x ∷ xs) (suc i) d lt = at (bytes_eq (get_or xs i d) x) (has_at_place xs i d (omega arith))
+  where
+    at : (b : Bool) → has (get_or xs i d) xs ≡ true → (b || has (get_or xs i d) xs) ≡ true
+    at true h = refl
+    at false h = h
+
+-- whether a key is one of the first i + 1
+pub has_take_more : (k : List ℕ) (keys : List (List ℕ)) (i : ℕ) (d : List ℕ) → i < length keys → has k (take (i + 1) keys) ≡ (has k (take i keys) || bytes_eq k (get_or keys i d))
+has_take_more k [] i d lt = absurd (let n : ⊥ = omega arith in n)
+has_take_more k (x ∷ xs) zero d lt = at (bytes_eq k x)
+  where
+    at : (b : Bool) → (b || false) ≡ (false || b)
+    at true = refl
+    at false = refl
+has_take_more k (x ∷ xs) (suc i) d lt =
+    ap (λ (n : ℕ). has k (take n (x ∷ xs))) (let n : suc i + 1 ≡ suc (i + 1) = omega arith in n) ∙ at (bytes_eq k x) (has_take_more k xs i d (omega arith))
+  where
+    at : (b : Bool) → has k (take (i + 1) xs) ≡ (has k (take i xs) || bytes_eq k (get_or xs i d)) → (b || has k (take (i + 1) xs)) ≡ ((b || has k (take i xs)) || bytes_eq k (get_or xs i d))
+    at true ih = refl
+    at false ih = ih
+
+-- one more fence is raised
+pub raises_more : (keys : List (List ℕ)) (at i : ℕ) (key d : List ℕ) (es fs gs : List (List ℕ × KeptObject)) → i < length keys → key ≡ get_or keys i d
+    → Raises (take i keys) at es fs → Changes key (raised_to at) fs gs → Raises (take (i + 1) keys) at es gs
+raises_more keys n i key d es fs gs lt is h g = record {
+  objects = λ k. g.objects k ∙ ap (λ (o : KeptObject). cond (bytes_eq key k) (raised_to n o) o) (h.objects k) ∙ both k (has k (take i keys)) (bytes_eq key k) refl
+    ∙ ap (λ b. cond b (raised_to n (object_in k es)) (object_in k es)) (sym (has_take_more k keys i d lt ∙ ap (λ (q : List ℕ). has k (take i keys) || bytes_eq k q) (sym is)));
+  keys = g.keys ∙ h.keys;
+  total = omega (arith, h.total, g.total);
+}
+  where
+    flip : (k q : List ℕ) → bytes_eq k q ≡ bytes_eq q k
+    flip k q = lists_flip k q
+    twice : (o : KeptObject) → raised_to n (raised_to n o) ≡ raised_to n o
+    twice o = ap (λ (m : ℕ). let p : KeptObject = record o { fence = m } in p) (let e : max n (max n o.fence) ≡ max n o.fence = omega arith in e)
+    both : (k : List ℕ) (a b : Bool) → bytes_eq key k ≡ b
+        → cond b (raised_to n (cond a (raised_to n (object_in k es)) (object_in k es))) (cond a (raised_to n (object_in k es)) (object_in k es))
+        ≡ cond (a || bytes_eq k key) (raised_to n (object_in k es)) (object_in k es)
+    both k true true e = twice (object_in k es)
+    both k true false e = refl
+    both k false true e = ap (λ b. cond b (raised_to n (object_in k es)) (object_in k es)) (sym (flip k key ∙ e))
+    both k false false e = ap (λ b. cond b (raised_to n (object_in k es)) (object_in k es)) (sym (flip k key ∙ e))
+
+-- logged writes made the bases
+
+pub lifted_push : (k : List ℕ) (ps : List Passed) (p : Passed) (o : KeptObject) → lifted k (ps ++ p ∷ []) o ≡ lifted_one k p (lifted k ps o)
+lifted_push k [] p o = refl
+lifted_push k (x ∷ xs) p o = lifted_push k xs p (lifted_one k x o)
+
+pub lifts_more : (ps : List Passed) (p : Passed) (key : List ℕ) (es fs gs : List (List ℕ × KeptObject)) → key ≡ p.key → Lifts ps es fs
+    → Changes key (λ (o : KeptObject). let q : KeptObject = record o { base = later p.write o.base } in q) fs gs → Lifts (ps ++ p ∷ []) es gs
+lifts_more ps p key es fs gs is h g = record {
+  objects = λ k. g.objects k ∙ ap (λ b. cond b (record (object_in k fs) { base = later p.write (object_in k fs).base }) (object_in k fs)) (lists_flip key k ∙ ap (bytes_eq k) is)
+    ∙ ap (lifted_one k p) (h.objects k) ∙ sym (lifted_push k ps p (object_in k es));
+  keys = g.keys ∙ h.keys;
+}
+
+pub passed_at_place : (ps : List Passed) (i : ℕ) (d : Passed) → i < length ps → has_passed (get_or ps i d).key ps ≡ true
+passed_at_place [] i d lt = absurd (let n : ⊥ = omega arith in n)
+passed_at_place (x ∷ xs) zero d lt = ap (λ b. b || has_passed x.key xs) (key_itself x.key)
+passed_at_place (x ∷ xs) (suc i) d lt = at (bytes_eq (get_or xs i d).key x.key) (passed_at_place xs i d (omega arith))
+  where
+    at : (b : Bool) → has_passed (get_or xs i d).key xs ≡ true → (b || has_passed (get_or xs i d).key xs) ≡ true
+    at true h = refl
+    at false h = h

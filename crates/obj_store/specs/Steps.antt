@@ -1,12 +1,13 @@
 -- What the calls do with one object.
-use Rattle.std.specs.Prelude.{◌≡◌, ℕ, Bool, true, false, cond, nat_le, nat_lt, List, [], ◌∷◌, filter, length, max, ◌+◌, ◌==◌, ◌||◌, bytes_eq, Option, Some, None}
+use Rattle.std.specs.Prelude.{◌≡◌, ℕ, Bool, true, false, cond, nat_le, nat_lt, List, [], ◌∷◌, filter, map, slice_get, length, max, ◌+◌, ◌==◌, ◌||◌, bytes_eq, Option, Some, None}
 use Rattle.std.specs.List.{IsDistinct}
 use Rattle.std.specs.Map.{keys_of}
+use Rattle.boki_model.specs.Maps.{has}
 use Rattle.boki_model.specs.Reads.{or_else}
 use Rattle.boki_model.specs.Writes.{Write, later, last_below}
 use Rattle.obj_store.specs.declared.object.Case.{Case}
 use Rattle.obj_store.specs.declared.object.Case.TheVariants as s
-use Rattle.obj_store.specs.Ascending.{has_at, not_below}
+use Rattle.obj_store.specs.Ascending.{Ascend, has_at, not_below}
 use Rattle.obj_store.specs.declared.objects.Passed.{Passed}
 use Rattle.obj_store.specs.Kept.{KeptObject, object_in, has_key, count_of, total, put_in}
 
@@ -61,3 +62,21 @@ pub record Changes (key : List ℕ) (f : KeptObject → KeptObject) (old new : L
   pub objects : (k : List ℕ) → object_in k new ≡ cond (bytes_eq key k) (f (object_in k old)) (object_in k old)
   pub keys : keys_of new ≡ keys_of old
   pub total : total new + count_of (object_in key old) ≡ total old + count_of (f (object_in key old))
+
+-- Some objects have their fences raised, and the other objects are as they were.
+pub record Raises (raised : List (List ℕ)) (at : ℕ) (old new : List (List ℕ × KeptObject)) : Type 0 where
+  pub objects : (k : List ℕ) → object_in k new ≡ cond (has k raised) (raised_to at (object_in k old)) (object_in k old)
+  pub keys : keys_of new ≡ keys_of old
+  pub total : total new ≡ total old
+
+-- Logged writes were made the bases of their objects.
+pub record Lifts (passed : List Passed) (old new : List (List ℕ × KeptObject)) : Type 0 where
+  pub objects : (k : List ℕ) → object_in k new ≡ lifted k passed (object_in k old)
+  pub keys : keys_of new ≡ keys_of old
+
+-- the versions of each object are in order
+abbrev pub AllAscend : List (List ℕ × KeptObject) → Type 0
+AllAscend es = (place : ℕ) (e : List ℕ × KeptObject) → slice_get es place ≡ Some e → Ascend e.1.versions
+
+abbrev pub settled_all : ℕ → List (List ℕ × KeptObject) → List (List ℕ × KeptObject)
+settled_all floor es = map (λ e. (e.0, settled_at floor e.1)) es

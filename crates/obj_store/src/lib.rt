@@ -5,6 +5,7 @@
 //! position answers the last write below it. A sweep drops what no read at or above the floor can answer.
 #![tactic(auto)]
 
+mod every;
 mod key;
 mod object;
 mod objects;

@@ -100,17 +100,8 @@ pub fn put(objects: &mut Objects, key: &str, version: Placed) -> Result<(), Memo
     Ok(())
 }
 
-// Makes the object at a place settle below the floor.
-fn settle_at(objects: &mut Objects, place: usize, floor: Seqnum)
-    ensures { (e : List ℕ × KeptObject) → slice_get objects.old.entries place ≡ Some e → Ascend e.1.versions → objects.new.entries ≡ set_value_at objects.old.entries place (settled_at floor.0 e.1) }
-{
-    if let Some(object) = objects.get_index_mut(place) {
-        object.settle(floor);
-    }
-}
-
-// Lifts the base of an object that has an entry to a logged write.
-fn lift(objects: &mut Objects, key: &str, write: Placed)
+/// Lifts the base of an object that has an entry to a logged write.
+pub fn lift(objects: &mut Objects, key: &str, write: Placed)
     requires { has_key key.now objects.old.entries ≡ true }
     ensures { Changes key.now (λ o. record o { base = later write o.base }) objects.old.entries objects.new.entries }
 {
