@@ -1,10 +1,14 @@
 -- Loops over keys, and over the logged writes that a sweep passes.
-use Rattle.std.proofs.Common.{◌≡◌, ℕ, zero, suc, ◌+◌, ◌<◌, max, Bool, true, false, cond, ◌||◌, List, [], ◌∷◌, ◌++◌, length, take, get_or, bytes_eq, refl, sym, ap, ◌∙◌, subst, arith}
+use Rattle.std.proofs.Common.{◌≡◌, ℕ, zero, suc, ◌+◌, ◌<◌, max, Bool, true, false, cond, ◌||◌, List, [], ◌∷◌, ◌++◌, length, take, Option, Some, None, get_or, bytes_eq, refl, sym, ap, ◌∙◌, subst, arith}
 use Rattle.std.specs.Cmp.Lexicographic.{nat_list_eq_equiv}
 use Rattle.boki_model.specs.Maps.{has}
-use Rattle.boki_model.specs.Writes.{later}
+use Rattle.boki_model.specs.Writes.{later, with}
+use Rattle.lb_base.specs.declared.value.Value.{Value}
+use Rattle.boki_types.specs.declared.store.Name.{Name}
+use Rattle.boki_types.specs.declared.store.Settled.{Settled}
 use Rattle.obj_store.specs.declared.objects.Passed.{Passed}
-use Rattle.obj_store.specs.Kept.{KeptObject, object_in, has_key}
+use Rattle.obj_store.specs.Kept.{KeptObject, object_in, has_key, is_name, value_in}
+use Rattle.obj_store.specs.Sweeps.{one_passed, passed_of, has_settled}
 use Rattle.obj_store.specs.Steps.{Changes, Raises, Lifts, raised_to, lifted, lifted_one, has_passed}
 use Rattle.obj_store.proofs.Entries.{same_key, key_itself}
 
@@ -131,3 +135,54 @@ passed_at_place (x ∷ xs) (suc i) d lt = at (bytes_eq (get_or xs i d).key x.key
     at : (b : Bool) → has_passed (get_or xs i d).key xs ≡ true → (b || has_passed (get_or xs i d).key xs) ≡ true
     at true h = refl
     at false h = h
+
+-- names are taken out
+
+pub removed_more : (ss : List Settled) (i : ℕ) (s : Settled) (es fs gs : List ((List ℕ × ℕ) × Value)) → i < length ss → s ≡ get_or ss i s
+    → ((n : Name) → value_in n fs ≡ cond (has_settled n (take i ss)) None (value_in n es))
+    → ((n : Name) → value_in n gs ≡ cond (is_name (s.name.path, s.name.place) (n.path, n.place)) None (value_in n fs))
+    → (n : Name) → value_in n gs ≡ cond (has_settled n (take (i + 1) ss)) None (value_in n es)
+removed_more ss i s es fs gs lt is h g n =
+    g n ∙ ap (λ (o : Option Value). cond (is_name (s.name.path, s.name.place) (n.path, n.place)) None o) (h n)
+    ∙ both (is_name (s.name.path, s.name.place) (n.path, n.place)) (has_settled n (take i ss))
+    ∙ ap (λ b. cond b None (value_in n es)) (sym (more ss i lt ∙ ap (λ (x : Settled). has_settled n (take i ss) || is_name (x.name.path, x.name.place) (n.path, n.place)) (sym is)))
+  where
+    both : (a b : Bool) → cond a None (cond b None (value_in n es)) ≡ cond (b || a) None (value_in n es)
+    both true true = refl
+    both true false = refl
+    both false true = refl
+    both false false = refl
+    more : (ss : List Settled) (i : ℕ) → i < length ss → has_settled n (take (i + 1) ss) ≡ (has_settled n (take i ss) || is_name ((get_or ss i s).name.path, (get_or ss i s).name.place) (n.path, n.place))
+    more [] i lt = absurd (let h : ⊥ = omega arith in h)
+    more (x ∷ xs) zero lt = at (is_name (x.name.path, x.name.place) (n.path, n.place))
+      where
+        at : (b : Bool) → (b || false) ≡ (false || b)
+        at true = refl
+        at false = refl
+    more (x ∷ xs) (suc i) lt =
+        ap (λ (m : ℕ). has_settled n (take m (x ∷ xs))) (let e : suc i + 1 ≡ suc (i + 1) = omega arith in e) ∙ at (is_name (x.name.path, x.name.place) (n.path, n.place)) (more xs i (omega arith))
+      where
+        at : (b : Bool) → has_settled n (take (i + 1) xs) ≡ (has_settled n (take i xs) || is_name ((get_or xs i s).name.path, (get_or xs i s).name.place) (n.path, n.place))
+            → (b || has_settled n (take (i + 1) xs)) ≡ ((b || has_settled n (take i xs)) || is_name ((get_or xs i s).name.path, (get_or xs i s).name.place) (n.path, n.place))
+        at true ih = refl
+        at false ih = ih
+
+-- copies of the logged writes that have a value
+
+with_append : (o : Option Passed) (xs ys : List Passed) → with o (xs ++ ys) ≡ with o xs ++ ys
+with_append None xs ys = refl
+with_append (Some p) xs ys = refl
+
+pub passed_of_more : (named : List ((List ℕ × ℕ) × Value)) (ss : List Settled) (i : ℕ) (s : Settled) (o : Option Passed) (ps qs : List Passed) → i < length ss → s ≡ get_or ss i s
+    → ps ≡ passed_of named (take i ss) → o ≡ one_passed named s → qs ≡ ps ++ with o [] → qs ≡ passed_of named (take (i + 1) ss)
+passed_of_more named ss i s o ps qs lt is before one push =
+    push ∙ ap (λ (l : List Passed). l ++ with o []) before
+    ∙ ap (λ (p : Option Passed). passed_of named (take i ss) ++ with p []) (one ∙ ap (one_passed named) is) ∙ sym (more ss i lt)
+  where
+    more : (ss : List Settled) (i : ℕ) → i < length ss → passed_of named (take (i + 1) ss) ≡ passed_of named (take i ss) ++ with (one_passed named (get_or ss i s)) []
+    more [] i lt = absurd (let h : ⊥ = omega arith in h)
+    more (x ∷ xs) zero lt = refl
+    more (x ∷ xs) (suc i) lt =
+        ap (λ (m : ℕ). passed_of named (take m (x ∷ xs))) (let e : suc i + 1 ≡ suc (i + 1) = omega arith in e)
+        ∙ ap (with (one_passed named x)) (more xs i (omega arith))
+        ∙ with_append (one_passed named x) (passed_of named (take i xs)) (with (one_passed named (get_or xs i s)) [])

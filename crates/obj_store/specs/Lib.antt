@@ -1,3 +1,6 @@
 pub mod Ascending
 pub mod Kept
+pub mod StandsFor
 pub mod Steps
+pub mod Sweeps
+pub mod Answers

@@ -5,9 +5,13 @@
 //! position answers the last write below it. A sweep drops what no read at or above the floor can answer.
 #![tactic(auto)]
 
+mod answers;
 mod every;
 mod key;
+mod names;
 mod object;
 mod objects;
 mod writes;
 
+
+pub use crate::answers::{Logged, Read};
