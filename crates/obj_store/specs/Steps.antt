@@ -1,15 +1,19 @@
 -- What the calls do with one object.
-use Rattle.std.specs.Prelude.{◌≡◌, ℕ, Bool, true, false, cond, nat_le, nat_lt, List, [], ◌∷◌, filter, map, slice_get, length, max, ◌+◌, ◌==◌, ◌||◌, bytes_eq, Option, Some, None}
+use Rattle.std.specs.Prelude.{◌≡◌, ℕ, Bool, true, false, cond, nat_le, nat_lt, List, [], ◌∷◌, filter, map, slice_get, length, max, suc, ◌-◌, ◌+◌, ◌==◌, ◌||◌, bytes_eq, Option, Some, None}
 use Rattle.std.specs.List.{IsDistinct}
-use Rattle.std.specs.Map.{keys_of}
+use Rattle.std.specs.Map.{lookup, keys_of}
 use Rattle.boki_model.specs.Maps.{has}
 use Rattle.boki_model.specs.Reads.{or_else}
-use Rattle.boki_model.specs.Writes.{Write, later, last_below}
+use Rattle.boki_model.specs.Writes.{Write, write_at, later, last_below, found}
+use Rattle.lb_base.specs.declared.value.Value.{Value}
+use Rattle.boki_types.specs.declared.store.Name.{Name}
+use Rattle.boki_types.specs.declared.store.Fenced.{Fenced}
+use Rattle.boki_types.specs.declared.store.Fenced.TheVariants as f
 use Rattle.obj_store.specs.declared.object.Case.{Case}
 use Rattle.obj_store.specs.declared.object.Case.TheVariants as s
-use Rattle.obj_store.specs.Ascending.{Ascend, has_at, not_below}
+use Rattle.obj_store.specs.Ascending.{Ascend, has_at, not_below, last_value}
 use Rattle.obj_store.specs.declared.objects.Passed.{Passed}
-use Rattle.obj_store.specs.Kept.{KeptObject, object_in, has_key, count_of, total, put_in}
+use Rattle.obj_store.specs.Kept.{KeptObject, blank, object_in, has_key, count_of, total, put_in, value_in}
 
 abbrev pub case_by : Bool → Bool → Case
 case_by true fenced = s.There
@@ -80,3 +84,42 @@ AllAscend es = (place : ℕ) (e : List ℕ × KeptObject) → slice_get es place
 
 abbrev pub settled_all : ℕ → List (List ℕ × KeptObject) → List (List ℕ × KeptObject)
 settled_all floor es = map (λ e. (e.0, settled_at floor e.1)) es
+
+-- A version was put in.
+pub record Puts (key : List ℕ) (w : Write) (old new : List (List ℕ × KeptObject)) : Type 0 where
+  pub objects : (k : List ℕ) → object_in k new ≡ cond (bytes_eq key k) (with_version w (object_in k old)) (object_in k old)
+  pub total : total new ≡ total old + 1
+  pub distinct : IsDistinct bytes_eq (keys_of old) → IsDistinct bytes_eq (keys_of new)
+
+-- the value of a logged write at or above the floor
+abbrev pub value_at_floor : ℕ → List ((List ℕ × ℕ) × Value) → ℕ × (Name × Option Value) → Option Value
+value_at_floor floor named l = cond (nat_lt l.0 floor) None (or_else l.1.1 (value_in l.1.0 named))
+
+-- the value of the last of a write and a logged one at a seqnum
+abbrev pub value_of_last : Option Write → ℕ → Option Value → Option Value
+value_of_last None seq value = value
+value_of_last (Some w) seq None = Some w.value
+value_of_last (Some w) seq (Some value) = Some (last_value w seq value)
+
+abbrev pub kept_upto : ℕ → KeptObject → Option Write
+kept_upto last object = or_else (last_below (suc last) 0 object.versions) object.base
+
+-- the value of the last write whose first number is at most `last`
+abbrev pub value_upto : ℕ → ℕ → KeptObject → List ((List ℕ × ℕ) × Value) → Option (ℕ × (Name × Option Value)) → Option Value
+value_upto floor last object named None = value_of_last (kept_upto last object) 0 None
+value_upto floor last object named (Some l) = value_of_last (kept_upto last object) l.0 (value_at_floor floor named l)
+
+-- what a fenced read answers
+abbrev pub value_before : ℕ → ℕ → KeptObject → List ((List ℕ × ℕ) × Value) → Option (ℕ × (Name × Option Value)) → Fenced
+value_before floor at object named l = cond (at == 0) f.Missing (found (value_upto floor (at - 1) object named l))
+
+-- an object with an initial value, where it has one
+abbrev pub initial_object : Option Value → KeptObject
+initial_object None = blank
+initial_object (Some v) = record blank { base = Some (write_at 0 0 v) }
+
+-- The objects are those of a store with these initial objects.
+pub record Opens (values : List (List ℕ × Value)) (es : List (List ℕ × KeptObject)) : Type 0 where
+  pub objects : (k : List ℕ) → object_in k es ≡ initial_object (lookup (bytes_eq k) values)
+  pub total : total es ≡ length values
+  pub distinct : IsDistinct bytes_eq (keys_of es)

@@ -11,7 +11,10 @@ mod key;
 mod names;
 mod object;
 mod objects;
+mod steps;
+mod store;
 mod writes;
 
 
+pub use crate::store::ObjStore;
 pub use crate::answers::{Logged, Read};

@@ -8,7 +8,7 @@ ghost use Rattle.boki_model.specs.Writes.{later};
 ghost use Rattle.indexmap.specs.IndexMap.{set_value_at};
 ghost use Rattle.obj_store.specs.Ascending.{Ascend};
 ghost use Rattle.obj_store.specs.Kept.{KeptObject, object_in, has_key, total};
-ghost use Rattle.obj_store.specs.Steps.{Widens, Changes, raised_to, with_version, settled_at, lifted_one, lifted, has_passed, count_in};
+ghost use Rattle.obj_store.specs.Steps.{Widens, Changes, Opens, raised_to, with_version, settled_at, lifted_one, lifted, has_passed, count_in};
 
 use crate::key::Key;
 use crate::object::Object;
@@ -108,4 +108,15 @@ pub fn lift(objects: &mut Objects, key: &str, write: Placed)
     if let Some(object) = objects.get_mut(Key { text: key }) {
         object.lift(write);
     }
+}
+
+/// The objects of a store that has these initial objects, whose keys differ.
+pub fn initial(alloc: Global, values: &[(Words, Value)]) -> Result<Objects, Memory>
+    ensures { IsDistinct bytes_eq (keys_of values.now) → IfOk result (λ m. Opens values.now m.entries) }
+{
+    let mut objects = IndexMap::new(alloc);
+    for (key, value) in values {
+        objects.insert(key.clone()?, Object::initial(alloc, value)?)?;
+    }
+    Ok(objects)
 }
