@@ -3,3 +3,4 @@ pub mod InOrder
 pub mod Entries
 pub mod Passing
 pub mod Fronts
+pub mod Lasts

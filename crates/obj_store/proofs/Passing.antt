@@ -1,15 +1,16 @@
 -- Loops over keys, and over the logged writes that a sweep passes.
 use Rattle.std.proofs.Common.{◌≡◌, ℕ, zero, suc, ◌+◌, ◌<◌, max, Bool, true, false, cond, ◌||◌, List, [], ◌∷◌, ◌++◌, length, take, Option, Some, None, get_or, bytes_eq, refl, sym, ap, ◌∙◌, subst, arith}
+use Rattle.std.specs.List.{IsDistinct}
 use Rattle.std.specs.Cmp.Lexicographic.{nat_list_eq_equiv}
 use Rattle.boki_model.specs.Maps.{has}
-use Rattle.boki_model.specs.Writes.{later, with}
+use Rattle.boki_model.specs.Writes.{Write, is_below, later, with}
 use Rattle.lb_base.specs.declared.value.Value.{Value}
 use Rattle.boki_types.specs.declared.store.Name.{Name}
 use Rattle.boki_types.specs.declared.store.Settled.{Settled}
 use Rattle.obj_store.specs.declared.objects.Passed.{Passed}
-use Rattle.obj_store.specs.Kept.{KeptObject, object_in, has_key, is_name, value_in}
+use Rattle.obj_store.specs.Kept.{KeptObject, object_in, has_key, count_of, put_in, is_name, value_in}
 use Rattle.obj_store.specs.Sweeps.{one_passed, passed_of, has_settled}
-use Rattle.obj_store.specs.Steps.{Changes, Raises, Lifts, raised_to, lifted, lifted_one, has_passed}
+use Rattle.obj_store.specs.Steps.{Widens, Changes, Puts, with_version, Raises, Lifts, raised_to, lifted, lifted_one, has_passed}
 use Rattle.obj_store.proofs.Entries.{same_key, key_itself}
 
 lists_flip : (k q : List ℕ) → bytes_eq k q ≡ bytes_eq q k
@@ -186,3 +187,21 @@ passed_of_more named ss i s o ps qs lt is before one push =
         ap (λ (m : ℕ). passed_of named (take m (x ∷ xs))) (let e : suc i + 1 ≡ suc (i + 1) = omega arith in e)
         ∙ ap (with (one_passed named x)) (more xs i (omega arith))
         ∙ with_append (one_passed named x) (passed_of named (take i xs)) (with (one_passed named (get_or xs i s)) [])
+
+-- a version is put in
+
+pub length_put_in : (w : Write) (ws : List Write) → length (put_in w ws) ≡ length ws + 1
+length_put_in w [] = refl
+length_put_in w (v ∷ vs) = at (is_below v.first v.second w.first w.second) (length_put_in w vs)
+  where
+    at : (b : Bool) → length (put_in w vs) ≡ length vs + 1 → length (cond b (v ∷ put_in w vs) (w ∷ v ∷ vs)) ≡ suc (length vs) + 1
+    at true ih = omega arith
+    at false ih = omega arith
+
+pub puts_is : (key : List ℕ) (w v : Write) (es fs gs : List (List ℕ × KeptObject)) → v ≡ w → Widens es fs → Changes key (with_version v) fs gs → Puts key w es gs
+puts_is key w v es fs gs is h g = record {
+  objects = λ k. g.objects k ∙ ap (λ (o : KeptObject). cond (bytes_eq key k) (with_version v o) o) (h.objects k)
+    ∙ ap (λ (x : Write). cond (bytes_eq key k) (with_version x (object_in k es)) (object_in k es)) is;
+  total = omega (arith, h.total, g.total, length_put_in v (object_in key fs).versions);
+  distinct = λ d. subst (IsDistinct bytes_eq) (sym g.keys) (h.distinct d);
+}

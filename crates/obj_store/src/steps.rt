@@ -26,7 +26,8 @@ pub fn put_in(objects: &mut Objects, alloc: Global, key: &str, cursor: Seqnum, k
 {
     let value = value.clone()?;
     objects::ensure(objects, alloc, key)?;
-    objects::put(objects, key, Placed::new(cursor.0, k, value))
+    objects::put(objects, key, Placed::new(cursor.0, k, value))?;
+    Ok(())
 }
 
 // The value of a logged write at or above the floor.
