@@ -19,16 +19,16 @@ use std::collections::HashMap;
 pub type Names = HashMap<(Path, u64), Value>;
 
 /// The value under a name.
-pub fn find(names: &Names, name: Name) -> Option<&Value>
-    ensures { option_copied result ≡ value_in name names.now.entries }
+pub fn find<'a>(names: &'a Names, name: &Name) -> Option<&'a Value>
+    ensures { option_copied result ≡ value_in name.now names.now.entries }
 {
     names.get(&(name.path, name.place))
 }
 
 /// Stores a copy of a value under a name that has none. After `Memory` nothing is changed.
-pub fn put(names: &mut Names, name: Name, value: &Value) -> Result<(), Memory>
-    requires { value_in name names.old.entries ≡ None }
-    ensures finds { OnOk result ((n : Name) → value_in n names.new.entries ≡ cond (is_name (name.path, name.place) (n.path, n.place)) (Some value.now) (value_in n names.old.entries)) }
+pub fn put(names: &mut Names, name: &Name, value: &Value) -> Result<(), Memory>
+    requires { value_in name.now names.old.entries ≡ None }
+    ensures finds { OnOk result ((n : Name) → value_in n names.new.entries ≡ cond (is_name (name.now.path, name.now.place) (n.path, n.place)) (Some value.now) (value_in n names.old.entries)) }
     ensures len { OnOk result (length names.new.entries ≡ length names.old.entries + 1) }
     ensures distinct { OnOk result (IsDistinct is_name (keys_of names.new.entries)) }
     ensures err { OnErr result (names.new.entries ≡ names.old.entries) }
@@ -62,7 +62,7 @@ fn value_of<'a>(names: &'a Names, write: &'a Settled) -> Option<&'a Value>
 {
     match &write.here {
         Some(value) => Some(value),
-        None => find(names, write.name),
+        None => find(names, &write.name),
     }
 }
 

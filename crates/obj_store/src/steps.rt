@@ -1,8 +1,8 @@
 //! The parts of the store's calls that look at its objects and names together.
 
-ghost use Rattle.std.specs.Prelude.{◌≡◌, ◌+◌, ◌-◌, ℕ, suc, List, true, false, cond, bytes_eq, option_map, option_copied, Some, None, IfOk, OnOk, OnErr};
+ghost use Rattle.std.specs.Prelude.{◌≡◌, ◌+◌, ◌-◌, ℕ, suc, List, true, false, cond, bytes_eq, nat_lt, option_map, option_copied, Some, None, IfOk, OnOk, OnErr};
 ghost use Rattle.boki_model.specs.Reads.{or_else};
-ghost use Rattle.boki_model.specs.Writes.{write_at, last_below};
+ghost use Rattle.boki_model.specs.Writes.{write_at, last_below, found};
 ghost use Rattle.obj_store.specs.Answers.{told};
 ghost use Rattle.obj_store.specs.Ascending.{Ascend};
 ghost use Rattle.obj_store.specs.Kept.{KeptObject, object_in, total};
@@ -31,15 +31,15 @@ pub fn put_in(objects: &mut Objects, alloc: Global, key: &str, cursor: Seqnum, k
 }
 
 // The value of a logged write at or above the floor.
-fn logged_value<'a>(named: &'a Names, floor: Seqnum, logged: Logged<'a>) -> Option<&'a Value>
-    ensures { option_copied result ≡ value_at_floor floor.0 named.now.entries (told logged.entry) }
+fn logged_value<'a>(named: &'a Names, floor: Seqnum, logged: &Logged<'a>) -> Option<&'a Value>
+    ensures { option_copied result ≡ value_at_floor floor.0 named.now.entries (told logged.now) }
 {
     if logged.seq < floor {
         return None;
     }
     match logged.here {
         Some(value) => Some(value),
-        None => names::find(named, logged.name),
+        None => names::find(named, &logged.name),
     }
 }
 
@@ -66,8 +66,8 @@ fn last_of<'a>(kept: Option<&'a Placed>, seq: Seqnum, logged: Option<&'a Value>)
 
 /// The value of the last write of an object whose first number is at most `last`, among those that are kept and the logged one,
 /// where `last` isn't below the floor.
-pub fn last_upto<'a>(objects: &'a Objects, named: &'a Names, floor: Seqnum, key: &str, last: u64, logged: Option<Logged<'a>>) -> Option<&'a Value>
-    ensures { Ascend (object_in key.now objects.now.entries).versions → option_copied result ≡ value_upto floor.0 last (object_in key.now objects.now.entries) named.now.entries (option_map told logged.entry) }
+pub fn last_upto<'a>(objects: &'a Objects, named: &'a Names, floor: Seqnum, key: &str, last: u64, logged: Option<&Logged<'a>>) -> Option<&'a Value>
+    ensures { Ascend (object_in key.now objects.now.entries).versions → option_copied result ≡ value_upto floor.0 last (object_in key.now objects.now.entries) named.now.entries (option_map told (option_copied logged.entry)) }
 {
     let kept = kept_upto(objects, key, last);
     match logged {
@@ -76,16 +76,32 @@ pub fn last_upto<'a>(objects: &'a Objects, named: &'a Names, floor: Seqnum, key:
     }
 }
 
+// A copy of the value of the last of a write that is kept and a logged one, which counts where it isn't below the floor.
+fn copy_last(kept: Option<&Placed>, floor: Seqnum, seq: Seqnum, logged: Option<&Value>) -> Result<Fenced, Memory>
+    ensures { IfOk result (λ a. a ≡ found (value_of_last (option_copied kept.entry) seq.0 (cond (nat_lt seq.0 floor.0) None (option_copied logged.entry)))) }
+{
+    match (kept, logged) {
+        (Some(write), Some(value)) if seq >= floor => Ok(Fenced::Found(later_value(write, seq, value).clone()?)),
+        (None, Some(value)) if seq >= floor => Ok(Fenced::Found(value.clone()?)),
+        (Some(write), _) => Ok(Fenced::Found(write.value().clone()?)),
+        (None, _) => Ok(Fenced::Missing),
+    }
+}
+
 /// A copy of the value of the last write of an object whose first number is below `at`, among those that are kept and the logged
 /// one, where `at` isn't below the floor.
-pub fn copy_before(objects: &Objects, named: &Names, floor: Seqnum, key: &str, at: Seqnum, logged: Option<Logged<'_>>) -> Result<Fenced, Memory>
-    ensures { Ascend (object_in key.now objects.now.entries).versions → IfOk result (λ a. a ≡ value_before floor.0 at.0 (object_in key.now objects.now.entries) named.now.entries (option_map told logged.entry)) }
+pub fn copy_before(objects: &Objects, named: &Names, floor: Seqnum, key: &str, at: Seqnum, logged: Option<&Logged<'_>>) -> Result<Fenced, Memory>
+    ensures { Ascend (object_in key.now objects.now.entries).versions → IfOk result (λ a. a ≡ value_before floor.0 at.0 (object_in key.now objects.now.entries) named.now.entries (option_map told (option_copied logged.entry))) }
 {
     if at.0 == 0 {
         return Ok(Fenced::Missing);
     }
-    match last_upto(objects, named, floor, key, at.0 - 1, logged) {
-        Some(value) => Ok(Fenced::Found(value.clone()?)),
-        None => Ok(Fenced::Missing),
+    let kept = kept_upto(objects, key, at.0 - 1);
+    let Some(logged) = logged else {
+        return copy_last(kept, floor, Seqnum(0), None);
+    };
+    match logged.here {
+        Some(value) => copy_last(kept, floor, logged.seq, Some(value)),
+        None => copy_last(kept, floor, logged.seq, names::find(named, &logged.name)),
     }
 }

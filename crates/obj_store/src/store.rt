@@ -74,11 +74,11 @@ impl ObjStore {
         if cursor < self.floor {
             return Ok(Named::Gone);
         }
-        if names::find(&self.named, name).is_some() {
+        if names::find(&self.named, &name).is_some() {
             return Ok(Named::Done);
         }
         let held = self.held.checked_add(1).ok_or(Memory)?;
-        names::put(&mut self.named, name, value)?;
+        names::put(&mut self.named, &name, value)?;
         self.held = held;
         Ok(Named::Done)
     }
@@ -113,8 +113,8 @@ impl ObjStore {
     /// and the logged one, or Missing where there is none. Gone comes exactly where the cursor is below the floor.
     ///
     /// It needs to be told the last live logged write of the object with a seqnum at most the cursor. It takes no memory.
-    pub fn read_free<'a>(&'a self, key: &str, cursor: Seqnum, logged: Option<Logged<'a>>) -> Read<'a>
-        ensures read { (m : Store) (records : List (Live Body)) → StandsFor self.now m records → IsTold key.now (suc cursor.0) self.now records logged.entry → shown result ≡ model.read_free key.now cursor.0 m records }
+    pub fn read_free<'a>(&'a self, key: &str, cursor: Seqnum, logged: Option<&Logged<'a>>) -> Read<'a>
+        ensures read { (m : Store) (records : List (Live Body)) → StandsFor self.now m records → IsTold key.now (suc cursor.0) self.now records (option_copied logged.entry) → shown result ≡ model.read_free key.now cursor.0 m records }
         ensures gone { cursor.0 < self.now.floor → result ≡ Read.Gone }
     {
         if cursor < self.floor {
@@ -132,8 +132,8 @@ impl ObjStore {
     ///
     /// It needs to be told the last live logged write of the object with a seqnum below the marker. After `Memory` the store is
     /// unchanged.
-    pub fn read_fenced(&mut self, key: &str, at: Seqnum, logged: Option<Logged<'_>>) -> Result<Fenced, Memory>
-        ensures ok { IfOk result (λ a. (m : Store) (records : List (Live Body)) → StandsFor self.old m records → IsTold key.now at.0 self.old records logged.entry → (a ≡ model.read_fenced key.now at.0 m records) × StandsFor self.new (model.after_fenced (key.now ∷ []) at.0 m) records) }
+    pub fn read_fenced(&mut self, key: &str, at: Seqnum, logged: Option<&Logged<'_>>) -> Result<Fenced, Memory>
+        ensures ok { IfOk result (λ a. (m : Store) (records : List (Live Body)) → StandsFor self.old m records → IsTold key.now at.0 self.old records (option_copied logged.entry) → (a ≡ model.read_fenced key.now at.0 m records) × StandsFor self.new (model.after_fenced (key.now ∷ []) at.0 m) records) }
         ensures err { OnErr result (IsUnchanged self.old self.new) }
     {
         if at < self.floor {

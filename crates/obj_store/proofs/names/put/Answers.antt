@@ -7,4 +7,4 @@ pub returns-clause-finds : goal.returns-clause-finds
 returns-clause-finds c = λ n.
     let same : c.in_ok-value.value ≡ c.args.value.now = search rules in
     c.in_ok-insert.ensures.updates.0 (n.path, n.place)
-    ∙ ap (λ (v : Value). cond (is_name (c.args.name.path, c.args.name.place) (n.path, n.place)) (Some v) (value_in n c.args.names.now.entries)) same
+    ∙ ap (λ (v : Value). cond (is_name (c.args.name.now.path, c.args.name.now.place) (n.path, n.place)) (Some v) (value_in n c.args.names.now.entries)) same
