@@ -4,3 +4,5 @@ pub mod Entries
 pub mod Passing
 pub mod Fronts
 pub mod Lasts
+pub mod Versions
+pub mod Puts
