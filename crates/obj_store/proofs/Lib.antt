@@ -6,3 +6,4 @@ pub mod Fronts
 pub mod Lasts
 pub mod Versions
 pub mod Puts
+pub mod Fences
