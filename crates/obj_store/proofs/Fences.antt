@@ -120,3 +120,65 @@ module _ (name : Name) (value : Value) (named : List Stored) (f : ℕ) (key : Li
               skip (if_key key x.seq (record { name = name; value = value } ∷ named) (Some w)) (logged_writes key (record { name = name; value = value } ∷ named) xs) (high (record { name = name; value = value } ∷ named) e)
               ∙ rest
               ∙ sym (skip (if_key key x.seq named (Some w)) (logged_writes key named xs) (high named e))
+
+-- one more name takes no value away
+pub values_stay : (s : Stored) (named : List Stored) (f : ℕ) (xs : List (Live Body)) → HaveValues f named xs → HaveValues f (s ∷ named) xs
+values_stay s named f [] h = tt
+values_stay s named f (x ∷ xs) h = (λ lt. by (logged_write x.holds) (h.0 lt), values_stay s named f xs h.1)
+  where
+    at : (here : Option Value) (b : Bool) (o : Option Value) → (or_else here o ≡ None → ⊥) → or_else here (cond b (Some s.value) o) ≡ None → ⊥
+    at (Some v) b o h e = let z : ⊥ = cc in z
+    at None true o h e = let z : ⊥ = cc in z
+    at None false o h e = h e
+    by : (w : Option (List ℕ × (Name × Option Value))) → HasValue named w → HasValue (s ∷ named) w
+    by None h = tt
+    by (Some w) h = at w.1.1 (same_name w.1.0 s.name) (value_of w.1.0 named) h
+
+none_of : (o : Option Value) → is_some o ≡ false → o ≡ None
+none_of None e = refl
+none_of (Some v) e = absurd (let z : ⊥ = cc in z)
+
+module _ (kept : Kept) (m : Store) (records : List (Live Body)) (stands : StandsFor kept m records) (name : Name) (cursor : ℕ) (value : Value)
+    (low : ltb cursor m.floor ≡ false) (fresh : is_settled name m.floor records ≡ true → cursor < m.floor) where
+  not_settled : is_settled name m.floor records ≡ false
+  not_settled = by (is_settled name m.floor records) refl
+    where
+      by : (b : Bool) → is_settled name m.floor records ≡ b → b ≡ false
+      by true e = absurd (let lt = fresh e in let z : ⊥ = grind (arith, nat_tests) in z)
+      by false e = refl
+
+  value_is : value_in name kept.named ≡ value_of name m.named
+  value_is = stands.named name ∙ ap (λ b. cond b None (value_of name m.named)) not_settled
+
+  done : n.Done ≡ named_put name cursor value m
+  done = sym (ap (λ b. cond b n.Gone n.Done) low)
+
+  pub named_there : is_some (value_in name kept.named) ≡ true → (n.Done ≡ named_put name cursor value m) × StandsFor kept (after_named name cursor value m) records
+  named_there is = (done, subst (λ b. StandsFor kept (cond b m (record m { named = name_if_new name value m.named })) records) (sym low)
+      (subst (λ b. StandsFor kept (record m { named = cond b m.named (record { name = name; value = value } ∷ m.named) }) records) (sym (ap is_some (sym value_is) ∙ is)) stands))
+
+  pub named_new : (gs : List ((List ℕ × ℕ) × Value)) (held : ℕ) → is_some (value_in name kept.named) ≡ false
+      → ((q : Name) → value_in q gs ≡ cond (is_name (name.path, name.place) (q.path, q.place)) (Some value) (value_in q kept.named))
+      → length gs ≡ length kept.named + 1 → IsDistinct is_name (keys_of gs) → held ≡ kept.held + 1
+      → (n.Done ≡ named_put name cursor value m) × StandsFor (record kept { named = gs; held = held }) (after_named name cursor value m) records
+  named_new gs held is finds len distinct more = (done, subst (λ b. StandsFor (record kept { named = gs; held = held }) (cond b m (record m { named = name_if_new name value m.named })) records) (sym low)
+      (subst (λ b. StandsFor (record kept { named = gs; held = held }) (record m { named = cond b m.named (record { name = name; value = value } ∷ m.named) }) records) (sym (ap is_some (sym value_is) ∙ is)) record {
+        floor = stands.floor;
+        objects = λ k. stands.objects k ∙ object_is _ _ (sym (ap (λ (o : Option Write). last_of o (last_of (last_below m.floor 0 (version_writes k m.versions)) (initial_write k m.initial)))
+          (base_keeps name value m.named m.floor k records not_settled))) refl refl;
+        named = λ q. finds q ∙ by q (is_name (name.path, name.place) (q.path, q.place)) refl;
+        sound = record { keys = stands.sound.keys; names = distinct; count = omega (arith, more, len, stands.sound.count) };
+        numbered = stands.numbered;
+        differ = (none_of (value_of name m.named) (ap is_some (sym value_is) ∙ is), stands.differ);
+        valued = values_stay (record { name = name; value = value }) m.named m.floor records stands.valued;
+        end = stands.end;
+        falls = stands.falls;
+      }))
+    where
+      by : (q : Name) (b : Bool) → same_name name q ≡ b
+          → cond b (Some value) (value_in q kept.named) ≡ cond (is_settled q m.floor records) None (cond (same_name q name) (Some value) (value_of q m.named))
+      by q true e =
+          sym (ap (λ b. cond b None (cond (same_name q name) (Some value) (value_of q m.named))) (ap (λ (x : Name). is_settled x m.floor records) (sym (same_name_is name q e)) ∙ not_settled)
+          ∙ ap (λ b. cond b (Some value) (value_of q m.named)) (name_flip q name ∙ e))
+      by q false e =
+          stands.named q ∙ ap (λ (o : Option Value). cond (is_settled q m.floor records) None o) (sym (ap (λ b. cond b (Some value) (value_of q m.named)) (name_flip q name ∙ e)))
