@@ -7,3 +7,4 @@ pub mod Lasts
 pub mod Versions
 pub mod Puts
 pub mod Fences
+pub mod LoggedWrites
