@@ -8,3 +8,4 @@ pub mod Versions
 pub mod Puts
 pub mod Fences
 pub mod LoggedWrites
+pub mod Reading
