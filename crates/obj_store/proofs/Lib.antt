@@ -9,3 +9,4 @@ pub mod Puts
 pub mod Fences
 pub mod LoggedWrites
 pub mod Reading
+pub mod Answering

@@ -1,7 +1,7 @@
 -- An object store that stands for a store, after a version was put in, fences were raised, or a value was stored under a name.
-use Rattle.std.proofs.Common.{◌≡◌, ℕ, zero, suc, ◌+◌, ◌<◌, ◌≤◌, ltb, leb, eqb, max, Bool, true, false, cond, not, ◌&&◌, ◌||◌, List, [], ◌∷◌, ◌++◌, length, filter, bytes_eq, Option, Some, None, is_some, refl, sym, ap, ◌∙◌, subst, arith}
+use Rattle.std.proofs.Common.{◌≡◌, ℕ, zero, suc, ◌+◌, ◌<◌, ◌≤◌, ltb, leb, eqb, max, Bool, true, false, cond, not, ◌&&◌, ◌||◌, List, [], ◌∷◌, ◌++◌, length, filter, bytes_eq, Option, Some, None, is_some, unwrap_or, refl, sym, ap, ◌∙◌, subst, arith}
 use Rattle.std.specs.List.{IsDistinct}
-use Rattle.std.specs.Map.{keys_of}
+use Rattle.std.specs.Map.{lookup, keys_of}
 use Rattle.std.specs.Cmp.Lexicographic.{nat_list_eq_equiv}
 use Rattle.std.proofs.lemmas.Bool.Decides.{nat_tests}
 use Rattle.lb_base.specs.declared.value.Value.{Value}
@@ -16,7 +16,7 @@ use Rattle.boki_model.specs.WriteLaws.{AreNumbered}
 use Rattle.obj_store.specs.declared.object.Case.{Case}
 use Rattle.obj_store.specs.declared.object.Case.TheVariants as s
 use Rattle.obj_store.specs.Ascending.{Ascend, has_at}
-use Rattle.obj_store.specs.Kept.{Kept, KeptObject, object_in, in_order, put_in, last_of, is_name, total}
+use Rattle.obj_store.specs.Kept.{Kept, KeptObject, blank, object_in, in_order, put_in, last_of, is_name, total}
 use Rattle.obj_store.specs.StandsFor.{StandsFor, IsSound, standing, kept_of, initial_write}
 use Rattle.obj_store.specs.Steps.{Widens, Puts, Raises, case_of, case_by, with_version, raised_to}
 use Rattle.obj_store.proofs.Entries.{same_key, key_itself}
@@ -155,3 +155,9 @@ module _ (kept : Kept) (m : Store) (records : List (Live Body)) (stands : Stands
             ≡ kept_of q (record m { versions = record { key = key; cursor = cursor; k = k; value = value } ∷ m.versions }) records
         at q true e h = object_is _ _ (sym (ap (λ (o : Option Write). last_of (last_below m.floor 0 (logged_writes q m.named records)) (last_of o (initial_write q m.initial))) (base_stays q true e))) (sym (versions_are q true e)) refl
         at q false e h = object_is _ _ (sym (ap (λ (o : Option Write). last_of (last_below m.floor 0 (logged_writes q m.named records)) (last_of o (initial_write q m.initial))) (base_stays q false e))) (sym (versions_are q false e)) refl
+
+  pub case_told : (key : List ℕ) (cursor k : ℕ) (o : Option KeptObject) (case : Case) → o ≡ lookup (bytes_eq key) kept.objects
+      → (Ascend (unwrap_or o blank).versions → case ≡ case_of cursor k (unwrap_or o blank)) → case ≡ case_of cursor k (object_in key kept.objects)
+  case_told key cursor k o case is tells =
+      let here : unwrap_or o blank ≡ object_in key kept.objects = ap (λ (p : Option KeptObject). unwrap_or p blank) is in
+      tells (subst (λ (p : KeptObject). Ascend p.versions) (sym here) (up key)) ∙ ap (case_of cursor k) here

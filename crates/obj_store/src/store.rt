@@ -71,7 +71,7 @@ impl ObjStore {
         ensures ok { IfOk result (λ a. (m : Store) (records : List (Live Body)) → StandsFor self.old m records → (model.is_settled name m.floor records ≡ true → cursor.0 < m.floor) → (a ≡ model.named_put name cursor.0 value.now m) × StandsFor self.new (model.after_named name cursor.0 value.now m) records) }
         ensures err { OnErr result (IsUnchanged self.old self.new) }
     {
-        if cursor < self.floor {
+        if cursor.0 < self.floor.0 {
             return Ok(Named::Gone);
         }
         if names::find(&self.named, &name).is_some() {
@@ -94,7 +94,7 @@ impl ObjStore {
         ensures err { OnErr result (IsUnchanged self.old self.new) }
         ensures no_memory { (m : Store) (records : List (Live Body)) → StandsFor self.old m records → model.puts_in key.now cursor.0 k m ≡ false → IsOk result }
     {
-        if cursor < self.floor {
+        if cursor.0 < self.floor.0 {
             return Ok(Put::Gone);
         }
         match standing(objects::find(&self.objects, key), cursor, k) {
@@ -117,7 +117,7 @@ impl ObjStore {
         ensures read { (m : Store) (records : List (Live Body)) → StandsFor self.now m records → IsTold key.now (suc cursor.0) self.now records (option_copied logged.entry) → shown result ≡ model.read_free key.now cursor.0 m records }
         ensures gone { cursor.0 < self.now.floor → result ≡ Read.Gone }
     {
-        if cursor < self.floor {
+        if cursor.0 < self.floor.0 {
             return Read::Gone;
         }
         match steps::last_upto(&self.objects, &self.named, self.floor, key, cursor.0, logged) {
@@ -136,7 +136,7 @@ impl ObjStore {
         ensures ok { IfOk result (λ a. (m : Store) (records : List (Live Body)) → StandsFor self.old m records → IsTold key.now at.0 self.old records (option_copied logged.entry) → (a ≡ model.read_fenced key.now at.0 m records) × StandsFor self.new (model.after_fenced (key.now ∷ []) at.0 m) records) }
         ensures err { OnErr result (IsUnchanged self.old self.new) }
     {
-        if at < self.floor {
+        if at.0 < self.floor.0 {
             return Ok(Fenced::Gone);
         }
         let answer = steps::copy_before(&self.objects, &self.named, self.floor, key, at, logged)?;
@@ -151,7 +151,7 @@ impl ObjStore {
         ensures ok { IfOk result (λ a. (m : Store) (records : List (Live Body)) → StandsFor self.old m records → (a ≡ not (nat_lt at.0 m.floor)) × StandsFor self.new (model.after_fenced keys.now at.0 m) records) }
         ensures err { OnErr result (IsUnchanged self.old self.new) }
     {
-        if at < self.floor {
+        if at.0 < self.floor.0 {
             return Ok(false);
         }
         objects::ensure_all(&mut self.objects, self.alloc, keys)?;
@@ -168,7 +168,7 @@ impl ObjStore {
         ensures ok { OnOk result ((m : Store) (records : List (Live Body)) → StandsFor self.old m records → settled.now ≡ logged_between m.floor floor.0 records → AllHaveValues self.old.named settled.now → StandsFor self.new (model.swept floor.0 m) records) }
         ensures err { OnErr result (IsUnchanged self.old self.new) }
     {
-        if floor <= self.floor {
+        if floor.0 <= self.floor.0 {
             return Ok(());
         }
         self.held.checked_add(settled.len() as u64).ok_or(Memory)?;
