@@ -14,7 +14,7 @@ use Rattle.boki_model.specs.Maps.{has}
 use Rattle.boki_model.specs.Writes.{Stored, Version, Store, Write, Raised, is_below, later, last_below, logged_write, logged_writes, version_writes, write_at, fence, raised, after_fenced, with, if_key, here_or_named, names_write, same_name, value_of, is_settled, named_put, name_if_new, after_named}
 use Rattle.obj_store.specs.Kept.{Kept, KeptObject, object_in, last_of, is_name, value_in, total}
 use Rattle.obj_store.specs.StandsFor.{StandsFor, IsSound, standing, kept_of, kept_under, initial_write, HasValue, HaveValues, NamesDiffer}
-use Rattle.obj_store.specs.Steps.{raised_to}
+use Rattle.obj_store.specs.Steps.{Widens, Changes, raised_to}
 use Rattle.obj_store.proofs.Entries.{same_key, key_itself}
 use Rattle.obj_store.proofs.Puts.{object_is}
 
@@ -182,3 +182,16 @@ module _ (kept : Kept) (m : Store) (records : List (Live Body)) (stands : Stands
           ∙ ap (λ b. cond b (Some value) (value_of q m.named)) (name_flip q name ∙ e))
       by q false e =
           stands.named q ∙ ap (λ (o : Option Value). cond (is_settled q m.floor records) None o) (sym (ap (λ b. cond b (Some value) (value_of q m.named)) (name_flip q name ∙ e)))
+
+module _ (kept : Kept) (m : Store) (records : List (Live Body)) (stands : StandsFor kept m records) where
+  pub one_raised : (key : List ℕ) (at : ℕ) (fs gs : List (List ℕ × KeptObject)) → ltb at m.floor ≡ false → Widens kept.objects fs → Changes key (raised_to at) fs gs
+      → StandsFor (record kept { objects = gs }) (after_fenced (key ∷ []) at m) records
+  one_raised key at fs gs low wide change =
+      fences_raised kept m records stands (key ∷ []) at gs low
+      (λ k. change.objects k ∙ ap (λ (o : KeptObject). cond (bytes_eq key k) (raised_to at o) o) (wide.objects k)
+        ∙ ap (λ b. cond b (raised_to at (object_in k kept.objects)) (object_in k kept.objects)) (nat_list_eq_equiv.symm key k ∙ or_none (bytes_eq k key)))
+      (omega (arith, change.total, wide.total)) (λ d. subst (IsDistinct bytes_eq) (sym change.keys) (wide.distinct d))
+    where
+      or_none : (b : Bool) → b ≡ (b || false)
+      or_none true = refl
+      or_none false = refl

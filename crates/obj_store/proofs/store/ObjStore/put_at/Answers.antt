@@ -1,4 +1,5 @@
 use Rattle.std.proofs.Common.{◌≡◌, ◌∙◌, ◌≤◌, ◌+◌, sym, ap, subst, arith, rules}
+use Rattle.boki_model.specs.Writes.{after_put}
 use Rattle.obj_store.specs.Kept.{Kept}
 use Rattle.obj_store.specs.StandsFor.{StandsFor}
 use Rattle.obj_store.proofs.Puts.{up, case_told, put_there, put_fenced, put_free, free_puts}
@@ -24,7 +25,7 @@ returns-in-There-clause-ok c = λ m records stands.
     let le : m.floor ≤ c.args.cursor.0 = (let e = S.floor in omega arith) in
     let case = sym (case_told _ m records S c.args.key.now c.args.cursor.0 c.args.k _ _ c.find.ensures c.standing.ensures) ∙ c.in-There.is in
     let done = put_there _ m records S c.args.key.now c.args.cursor.0 c.args.k c.args.value.now le case in
-    (done.0, subst (λ (k : Kept). StandsFor k _ records) c.self.view_is done.1)
+    (done.0, subst (λ (k : Kept). StandsFor k (after_put c.args.key.now c.args.cursor.0 c.args.k c.args.value.now m) records) c.self.view_is done.1)
 
 pub returns-in-Fenced-clause-ok : goal.returns-in-Fenced-clause-ok
 returns-in-Fenced-clause-ok c = λ m records stands.
@@ -32,7 +33,7 @@ returns-in-Fenced-clause-ok c = λ m records stands.
     let le : m.floor ≤ c.args.cursor.0 = (let e = S.floor in omega arith) in
     let case = sym (case_told _ m records S c.args.key.now c.args.cursor.0 c.args.k _ _ c.find.ensures c.standing.ensures) ∙ c.in-Fenced.is in
     let done = put_fenced _ m records S c.args.key.now c.args.cursor.0 c.args.k c.args.value.now le case in
-    (done.0, subst (λ (k : Kept). StandsFor k _ records) c.self.view_is done.1)
+    (done.0, subst (λ (k : Kept). StandsFor k (after_put c.args.key.now c.args.cursor.0 c.args.k c.args.value.now m) records) c.self.view_is done.1)
 
 pub returns-in_ok-put_in-in-Free-clause-ok : goal.returns-in_ok-put_in-in-Free-clause-ok
 returns-in_ok-put_in-in-Free-clause-ok c = λ m records stands.
