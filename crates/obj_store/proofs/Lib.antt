@@ -10,3 +10,4 @@ pub mod Fences
 pub mod LoggedWrites
 pub mod Reading
 pub mod Answering
+pub mod Sweeping

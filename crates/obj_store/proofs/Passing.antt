@@ -1,6 +1,7 @@
 -- Loops over keys, and over the logged writes that a sweep passes.
-use Rattle.std.proofs.Common.{◌≡◌, ℕ, zero, suc, ◌+◌, ◌<◌, max, Bool, true, false, cond, ◌||◌, List, [], ◌∷◌, ◌++◌, length, take, Option, Some, None, get_or, bytes_eq, refl, sym, ap, ◌∙◌, subst, arith}
+use Rattle.std.proofs.Common.{◌≡◌, ℕ, zero, suc, ◌+◌, ◌<◌, ◌≤◌, max, Bool, true, false, cond, ◌||◌, List, [], ◌∷◌, ◌++◌, length, take, Option, Some, None, get_or, bytes_eq, refl, sym, ap, ◌∙◌, subst, arith}
 use Rattle.std.specs.List.{IsDistinct}
+use Rattle.std.proofs.lemmas.List.{length_push}
 use Rattle.std.specs.Cmp.Lexicographic.{nat_list_eq_equiv}
 use Rattle.boki_model.specs.Maps.{has}
 use Rattle.boki_model.specs.Writes.{Write, is_below, later, with}
@@ -8,7 +9,7 @@ use Rattle.lb_base.specs.declared.value.Value.{Value}
 use Rattle.boki_types.specs.declared.store.Name.{Name}
 use Rattle.boki_types.specs.declared.store.Settled.{Settled}
 use Rattle.obj_store.specs.declared.objects.Passed.{Passed}
-use Rattle.obj_store.specs.Kept.{KeptObject, object_in, has_key, count_of, put_in, is_name, value_in}
+use Rattle.obj_store.specs.Kept.{KeptObject, object_in, has_key, base_count, count_of, put_in, is_name, value_in}
 use Rattle.obj_store.specs.Sweeps.{one_passed, passed_of, has_settled}
 use Rattle.obj_store.specs.Steps.{Widens, Changes, Puts, with_version, Raises, Lifts, raised_to, lifted, lifted_one, has_passed}
 use Rattle.obj_store.proofs.Entries.{same_key, key_itself}
@@ -126,7 +127,18 @@ lifts_more ps p key es fs gs is h g = record {
   objects = λ k. g.objects k ∙ ap (λ b. cond b (record (object_in k fs) { base = later p.write (object_in k fs).base }) (object_in k fs)) (lists_flip key k ∙ ap (bytes_eq k) is)
     ∙ ap (lifted_one k p) (h.objects k) ∙ sym (lifted_push k ps p (object_in k es));
   keys = g.keys ∙ h.keys;
+  total = omega (arith, h.total, g.total, length_push ps p, by_one (object_in key fs).base);
 }
+  where
+    one_more : (o : Option Write) → base_count (later p.write o) ≡ 1
+    one_more None = refl
+    one_more (Some v) = at (is_below p.write.first p.write.second v.first v.second)
+      where
+        at : (b : Bool) → base_count (cond b (Some v) (Some p.write)) ≡ 1
+        at true = refl
+        at false = refl
+    by_one : (o : Option Write) → base_count (later p.write o) ≤ base_count o + 1
+    by_one o = omega (arith, one_more o)
 
 pub passed_at_place : (ps : List Passed) (i : ℕ) (d : Passed) → i < length ps → has_passed (get_or ps i d).key ps ≡ true
 passed_at_place [] i d lt = absurd (let n : ⊥ = omega arith in n)

@@ -1,5 +1,5 @@
 -- What the calls do with one object.
-use Rattle.std.specs.Prelude.{◌≡◌, ℕ, Bool, true, false, cond, nat_le, nat_lt, List, [], ◌∷◌, filter, map, slice_get, length, max, suc, ◌-◌, ◌+◌, ◌==◌, ◌||◌, bytes_eq, Option, Some, None}
+use Rattle.std.specs.Prelude.{◌≡◌, ℕ, Bool, true, false, cond, nat_le, nat_lt, List, [], ◌∷◌, filter, map, slice_get, length, max, ◌≤◌, suc, ◌-◌, ◌+◌, ◌==◌, ◌||◌, bytes_eq, Option, Some, None}
 use Rattle.std.specs.List.{IsDistinct}
 use Rattle.std.specs.Map.{lookup, keys_of}
 use Rattle.boki_model.specs.Maps.{has}
@@ -77,6 +77,7 @@ pub record Raises (raised : List (List ℕ)) (at : ℕ) (old new : List (List �
 pub record Lifts (passed : List Passed) (old new : List (List ℕ × KeptObject)) : Type 0 where
   pub objects : (k : List ℕ) → object_in k new ≡ lifted k passed (object_in k old)
   pub keys : keys_of new ≡ keys_of old
+  pub total : total new ≤ total old + length passed
 
 -- the versions of each object are in order
 abbrev pub AllAscend : List (List ℕ × KeptObject) → Type 0

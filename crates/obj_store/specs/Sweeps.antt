@@ -1,6 +1,5 @@
 -- What a sweep is given, and what it does to the base of an object.
 use Rattle.std.specs.Prelude.{◌≡◌, ℕ, ◌&&◌, ◌||◌, option_map, Bool, true, false, cond, nat_le, nat_lt, List, [], ◌∷◌, ◌++◌, bytes_eq, Option, Some, None, is_some, IsTrue}
-use Rattle.std.specs.List.{All}
 use Rattle.lb_base.specs.declared.value.Value.{Value}
 use Rattle.boki_types.specs.declared.body.Body.{Body}
 use Rattle.boki_types.specs.declared.store.Name.{Name}
@@ -26,7 +25,8 @@ settled_value named s = or_else s.here (value_in s.name named)
 
 -- each has a value
 abbrev pub AllHaveValues : List ((List ℕ × ℕ) × Value) → List Settled → Type 0
-AllHaveValues named settled = All (λ s. IsTrue (is_some (settled_value named s))) settled
+AllHaveValues named [] = Unit {0}
+AllHaveValues named (s ∷ ss) = IsTrue (is_some (settled_value named s)) × AllHaveValues named ss
 
 -- a logged write that has a value, as it is made the base of its object
 abbrev pub one_passed : List ((List ℕ × ℕ) × Value) → Settled → Option Passed

@@ -1,6 +1,6 @@
 //! The values that are stored under names.
 
-ghost use Rattle.std.specs.Prelude.{◌≡◌, ◌+◌, ◌++◌, [], ℕ, cond, length, option_copied, option_map, Some, None, IfOk, OnOk, OnErr};
+ghost use Rattle.std.specs.Prelude.{◌≡◌, ◌≤◌, ◌+◌, ◌++◌, [], ℕ, cond, length, option_copied, option_map, Some, None, IfOk, OnOk, OnErr};
 ghost use Rattle.std.specs.List.{IsDistinct};
 ghost use Rattle.std.specs.Map.{keys_of};
 ghost use Rattle.boki_types.specs.declared.store.Name.{Name};
@@ -42,6 +42,7 @@ pub fn put(names: &mut Names, name: &Name, value: &Value) -> Result<(), Memory>
 fn remove(names: &mut Names, name: Name)
     ensures finds { (n : Name) → value_in n names.new.entries ≡ cond (is_name (name.path, name.place) (n.path, n.place)) None (value_in n names.old.entries) }
     ensures distinct { IsDistinct is_name (keys_of names.new.entries) }
+    ensures len { length names.new.entries ≤ length names.old.entries }
 {
     names.remove(&(name.path, name.place));
 }
@@ -50,6 +51,7 @@ fn remove(names: &mut Names, name: Name)
 pub fn remove_all(names: &mut Names, settled: &[Settled])
     ensures finds { (n : Name) → value_in n names.new.entries ≡ cond (has_settled n settled.now) None (value_in n names.old.entries) }
     ensures distinct { IsDistinct is_name (keys_of names.old.entries) → IsDistinct is_name (keys_of names.new.entries) }
+    ensures len { length names.new.entries ≤ length names.old.entries }
 {
     for write in settled {
         remove(names, write.name);
