@@ -11,3 +11,4 @@ pub mod LoggedWrites
 pub mod Reading
 pub mod Answering
 pub mod Sweeping
+pub mod Swept

@@ -20,7 +20,7 @@ use Rattle.obj_store.proofs.Lasts.{If, Each, Apart, last_none, last_assoc, last_
 use Rattle.obj_store.proofs.Versions.{writes_standing}
 use Rattle.obj_store.proofs.LoggedWrites.{IsLogged, each_logged, Tells, tells}
 
-each_numbered : (key : List ℕ) (vs : List Version) → AreNumbered vs → Each (λ w. 0 < w.second) (version_writes key vs)
+pub each_numbered : (key : List ℕ) (vs : List Version) → AreNumbered vs → Each (λ w. 0 < w.second) (version_writes key vs)
 each_numbered key [] h = tt
 each_numbered key (v ∷ vs) h = by (bytes_eq key v.key) (each_numbered key vs h.2)
   where
@@ -28,7 +28,7 @@ each_numbered key (v ∷ vs) h = by (bytes_eq key v.key) (each_numbered key vs h
     by true ih = (h.0, ih)
     by false ih = ih
 
-each_high : (f : ℕ) (P : Write → Type 0) (ws : List Write) → Each P ws → Each (λ w. (f ≤ w.first) × P w) (not_below f ws)
+pub each_high : (f : ℕ) (P : Write → Type 0) (ws : List Write) → Each P ws → Each (λ w. (f ≤ w.first) × P w) (not_below f ws)
 each_high f P [] h = tt
 each_high f P (w ∷ ws) h = by (leb f w.first) refl (each_high f P ws h.1)
   where
@@ -59,7 +59,7 @@ apart_seconds None b h g = tt
 apart_seconds (Some x) None h g = tt
 apart_seconds (Some x) (Some y) h g = λ e s. absurd (let z : ⊥ = omega arith in z)
 
-if_weaker : (o : Option Write) (P Q : Write → Type 0) → ((w : Write) → P w → Q w) → If o P → If o Q
+pub if_weaker : (o : Option Write) (P Q : Write → Type 0) → ((w : Write) → P w → Q w) → If o P → If o Q
 if_weaker None P Q to h = tt
 if_weaker (Some w) P Q to h = to w h
 
@@ -72,11 +72,11 @@ both_none (Some x) (Some y) e = absurd (by (is_below x.first x.second y.first y.
     by true e = let z : ⊥ = cc in z
     by false e = let z : ⊥ = cc in z
 
-abbrev IsLow : ℕ → Write → Type 0
+abbrev pub IsLow : ℕ → Write → Type 0
 IsLow f w = (w.first < f) ⊎ ((w.first ≡ 0) × (w.second ≡ 0))
 
 -- a version at or above the floor is later than a base
-or_last : (f : ℕ) (a b : Option Write) → If a (λ w. (f ≤ w.first) × (0 < w.second)) → If b (IsLow f) → or_else a b ≡ last_of a b
+pub or_last : (f : ℕ) (a b : Option Write) → If a (λ w. (f ≤ w.first) × (0 < w.second)) → If b (IsLow f) → or_else a b ≡ last_of a b
 or_last f None b h g = refl
 or_last f (Some x) None h g = refl
 or_last f (Some x) (Some y) h g = sym (ap (λ t. cond t (Some y) (Some x)) (not_under g))
@@ -126,7 +126,7 @@ module _ (kept : Kept) (m : Store) (records : List (Live Body)) (stands : Stands
   Vf_Lf = apart_seconds _ _ (each_has (λ w. 0 < w.second) m.floor 0 (version_writes key m.versions) (each_numbered key m.versions stands.numbered))
       (if_weaker _ (IsLogged stands.end) (λ w. w.second ≡ 0) (λ w h. h.2) (each_has (IsLogged stands.end) m.floor 0 (logged_writes key m.named records) (each_logged key m.named stands.end records stands.falls)))
 
-  base_low : If (base_of key m records) (IsLow m.floor)
+  pub base_low : If (base_of key m records) (IsLow m.floor)
   base_low =
       last_has (IsLow m.floor) _ _ (if_weaker _ (λ w. w.first < m.floor) (IsLow m.floor) (λ w h. inl h) (below_floor m.floor (logged_writes key m.named records)))
       (last_has (IsLow m.floor) _ _ (if_weaker _ (λ w. w.first < m.floor) (IsLow m.floor) (λ w h. inl h) (below_floor m.floor (version_writes key m.versions)))
@@ -188,7 +188,7 @@ module _ (kept : Kept) (m : Store) (records : List (Live Body)) (stands : Stands
             ∙ sym (last_past Vf Lf (last_of W I) Vf_Lf)
             ∙ ap (last_of Vf) (sym (last_assoc Lf W I) ∙ ap (λ (o : Option Write). last_of o I) (absorbs m.floor seq v Lf (below_floor m.floor L) high))
 
-  to_model : (here : Option Value) (name : Name) (v : Value) → or_else here (value_in name kept.named) ≡ Some v → here_or_named here name m.named ≡ Some v
+  pub to_model : (here : Option Value) (name : Name) (v : Value) → or_else here (value_in name kept.named) ≡ Some v → here_or_named here name m.named ≡ Some v
   to_model (Some u) name v e = e
   to_model None name v e = by (is_settled name m.floor records) (value_of name m.named) (sym (stands.named name) ∙ e)
     where
