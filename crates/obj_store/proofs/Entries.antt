@@ -75,7 +75,7 @@ unchanged key f es fs h e = record {
 
 -- a new entry that says nothing
 
-absent_adds : (key : List ℕ) (v : KeptObject) (es : List (List ℕ × KeptObject)) → lookup (bytes_eq key) es ≡ None → total (insert_entry bytes_eq es key v) ≡ total es + count_of v
+pub absent_adds : (key : List ℕ) (v : KeptObject) (es : List (List ℕ × KeptObject)) → lookup (bytes_eq key) es ≡ None → total (insert_entry bytes_eq es key v) ≡ total es + count_of v
 absent_adds key v [] none = omega (arith, sum_by-cons count_of v [])
 absent_adds key v (e ∷ es) none = at (bytes_eq key e.0) none (absent_adds key v es)
   where

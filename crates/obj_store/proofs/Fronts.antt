@@ -82,3 +82,15 @@ pub sum_to_end : (f : KeptObject → ℕ) (i : ℕ) (es : List (List ℕ × Kept
 sum_to_end f i es n end fits is =
     let e : front_sum f i es ≡ sum_by f (values_of es) = ap (λ (m : ℕ). front_sum f m es) end ∙ sum_end f es in
     is (omega (arith, e, fits)) ∙ e
+
+-- one entry written at its place
+
+pub keys_set_at : (es : List (List ℕ × KeptObject)) (i : ℕ) (w : KeptObject) → keys_of (set_value_at es i w) ≡ keys_of es
+keys_set_at [] i w = refl
+keys_set_at (e ∷ es) zero w = refl
+keys_set_at (e ∷ es) (suc i) w = ap (λ (l : List (List ℕ)). let k : List (List ℕ) = e.0 ∷ l in k) (keys_set_at es i w)
+
+pub value_at_place : (es : List (List ℕ × KeptObject)) (i : ℕ) (e : List ℕ × KeptObject) → slice_get es i ≡ Some e → slice_get (values_of es) i ≡ Some e.1
+value_at_place [] i e is = absurd (let h : ⊥ = cc in h)
+value_at_place (x ∷ xs) zero e is = ap (λ (y : List ℕ × KeptObject). Some y.1) (let s : x ≡ e = cc in s)
+value_at_place (x ∷ xs) (suc i) e is = value_at_place xs i e is

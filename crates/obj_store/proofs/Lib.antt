@@ -12,3 +12,4 @@ pub mod Reading
 pub mod Answering
 pub mod Sweeping
 pub mod Swept
+pub mod Opening

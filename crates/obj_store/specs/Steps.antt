@@ -1,5 +1,5 @@
 -- What the calls do with one object.
-use Rattle.std.specs.Prelude.{◌≡◌, ℕ, Bool, true, false, cond, nat_le, nat_lt, List, [], ◌∷◌, filter, map, slice_get, length, max, ◌≤◌, suc, ◌-◌, ◌+◌, ◌==◌, ◌||◌, bytes_eq, Option, Some, None}
+use Rattle.std.specs.Prelude.{◌≡◌, ℕ, Bool, true, false, cond, nat_le, nat_lt, List, [], ◌∷◌, filter, map, slice_get, length, max, option_map, ◌≤◌, suc, ◌-◌, ◌+◌, ◌==◌, ◌||◌, bytes_eq, Option, Some, None}
 use Rattle.std.specs.List.{IsDistinct}
 use Rattle.std.specs.Map.{lookup, keys_of}
 use Rattle.boki_model.specs.Maps.{has}
@@ -114,13 +114,12 @@ value_upto floor last object named (Some l) = value_of_last (kept_upto last obje
 abbrev pub value_before : ℕ → ℕ → KeptObject → List ((List ℕ × ℕ) × Value) → Option (ℕ × (Name × Option Value)) → Fenced
 value_before floor at object named l = cond (at == 0) f.Missing (found (value_upto floor (at - 1) object named l))
 
--- an object with an initial value, where it has one
-abbrev pub initial_object : Option Value → KeptObject
-initial_object None = blank
-initial_object (Some v) = record blank { base = Some (write_at 0 0 v) }
+-- an object with an initial value
+abbrev pub opened : Value → KeptObject
+opened v = record blank { base = Some (write_at 0 0 v) }
 
 -- The objects are those of a store with these initial objects.
 pub record Opens (values : List (List ℕ × Value)) (es : List (List ℕ × KeptObject)) : Type 0 where
-  pub objects : (k : List ℕ) → object_in k es ≡ initial_object (lookup (bytes_eq k) values)
+  pub finds : (k : List ℕ) → lookup (bytes_eq k) es ≡ option_map opened (lookup (bytes_eq k) values)
   pub total : total es ≡ length values
   pub distinct : IsDistinct bytes_eq (keys_of es)

@@ -23,7 +23,8 @@ pub fn raise_all(objects: &mut Objects, keys: &[Words], at: Seqnum)
 
 // Makes the object at a place settle below the floor.
 fn settle_at(objects: &mut Objects, place: usize, floor: Seqnum)
-    ensures { (e : List ℕ × KeptObject) → slice_get objects.old.entries place ≡ Some e → Ascend e.1.versions → objects.new.entries ≡ set_value_at objects.old.entries place (settled_at floor.0 e.1) }
+    ensures keys { keys_of objects.new.entries ≡ keys_of objects.old.entries }
+    ensures settled { (e : List ℕ × KeptObject) → slice_get objects.old.entries place ≡ Some e → Ascend e.1.versions → objects.new.entries ≡ set_value_at objects.old.entries place (settled_at floor.0 e.1) }
 {
     if let Some(object) = objects.get_index_mut(place) {
         object.settle(floor);
@@ -32,7 +33,8 @@ fn settle_at(objects: &mut Objects, place: usize, floor: Seqnum)
 
 /// Makes each object settle below the floor.
 pub fn settle_all(objects: &mut Objects, floor: Seqnum)
-    ensures { AllAscend objects.old.entries → objects.new.entries ≡ settled_all floor.0 objects.old.entries }
+    ensures keys { keys_of objects.new.entries ≡ keys_of objects.old.entries }
+    ensures settled { AllAscend objects.old.entries → objects.new.entries ≡ settled_all floor.0 objects.old.entries }
 {
     for place in 0..objects.len() {
         settle_at(objects, place, floor);
