@@ -13,3 +13,4 @@ pub mod Answering
 pub mod Sweeping
 pub mod Swept
 pub mod Opening
+pub mod Opened

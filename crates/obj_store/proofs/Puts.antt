@@ -3,6 +3,7 @@ use Rattle.std.proofs.Common.{◌≡◌, ℕ, zero, suc, ◌+◌, ◌<◌, ◌�
 use Rattle.std.specs.List.{IsDistinct}
 use Rattle.std.specs.Map.{lookup, keys_of}
 use Rattle.std.specs.Cmp.Lexicographic.{nat_list_eq_equiv}
+use Rattle.std.proofs.lemmas.Map.Entries.{lookup_from_place}
 use Rattle.std.proofs.lemmas.Bool.Decides.{nat_tests}
 use Rattle.lb_base.specs.declared.value.Value.{Value}
 use Rattle.boki_types.specs.declared.body.Body.{Body}
@@ -18,7 +19,7 @@ use Rattle.obj_store.specs.declared.object.Case.TheVariants as s
 use Rattle.obj_store.specs.Ascending.{Ascend, has_at}
 use Rattle.obj_store.specs.Kept.{Kept, KeptObject, blank, object_in, in_order, put_in, last_of, is_name, total}
 use Rattle.obj_store.specs.StandsFor.{StandsFor, IsSound, standing, kept_of, initial_write}
-use Rattle.obj_store.specs.Steps.{Widens, Puts, Raises, case_of, case_by, with_version, raised_to}
+use Rattle.obj_store.specs.Steps.{AllAscend, Widens, Puts, Raises, case_of, case_by, with_version, raised_to}
 use Rattle.obj_store.proofs.Entries.{same_key, key_itself}
 use Rattle.obj_store.proofs.Versions.{ascends, has_in_order, has_version_write, version_standing}
 
@@ -161,3 +162,10 @@ module _ (kept : Kept) (m : Store) (records : List (Live Body)) (stands : Stands
   case_told key cursor k o case is tells =
       let here : unwrap_or o blank ≡ object_in key kept.objects = ap (λ (p : Option KeptObject). unwrap_or p blank) is in
       tells (subst (λ (p : KeptObject). Ascend p.versions) (sym here) (up key)) ∙ ap (case_of cursor k) here
+
+  -- the versions of each entry are in order
+  pub all_up : (es : List (List ℕ × KeptObject)) → Widens kept.objects es → AllAscend es
+  all_up es wide = λ place e is.
+      subst (λ (o : KeptObject). Ascend o.versions)
+      (sym (wide.objects e.0) ∙ ap (λ (o : Option KeptObject). unwrap_or o blank) (lookup_from_place nat_list_eq_equiv es place e.0 e.1 (wide.distinct stands.sound.keys) is))
+      (up e.0)
