@@ -13,4 +13,6 @@ pub mod Answering
 pub mod Sweeping
 pub mod Swept
 pub mod Opening
+pub mod Counting
+pub mod Held
 pub mod Opened
