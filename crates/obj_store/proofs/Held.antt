@@ -3,6 +3,7 @@ use Rattle.std.proofs.Common.{◌≡◌, ℕ, zero, suc, ◌+◌, ◌<◌, ◌�
 use Rattle.std.specs.List.{IsDistinct}
 use Rattle.std.specs.Map.{lookup, keys_of, values_of}
 use Rattle.std.specs.Cmp.Lexicographic.{nat_list_eq_equiv}
+use Rattle.std.proofs.lemmas.List.Sums.{sum_by-cons}
 use Rattle.std.proofs.lemmas.Bool.Decides.{nat_tests}
 use Rattle.boki_types.specs.declared.body.Body.{Body}
 use Rattle.boki_model.specs.Live.{Live}
@@ -108,3 +109,65 @@ module _ (kept : Kept) (m : Store) (records : List (Live Body)) (stands : Stands
 
   kept_version : (k : List ℕ) → 0 < length (version_writes k (standing m.floor m.versions)) → kept_of k m records ≡ blank → ⊥
   kept_version k h e = let n = ap (λ (o : KeptObject). length o.versions) e in let l = length_in_order (version_writes k (standing m.floor m.versions)) in let z : ⊥ = omega arith in z
+
+module _ (f : ℕ) (es : List (List ℕ × KeptObject)) where
+  one_more : (k : List ℕ) (v : Version) (vs : List Version) → length (version_writes k (standing f vs)) ≤ length (version_writes k (standing f (v ∷ vs)))
+  one_more k v vs = by (leb f v.cursor) (bytes_eq k v.key) refl
+    where
+      by : (p b : Bool) → bytes_eq k v.key ≡ b → length (version_writes k (standing f vs)) ≤ length (version_writes k (cond p (v ∷ standing f vs) (standing f vs)))
+      by false b e = omega arith
+      by true true e = subst (λ x. length (version_writes k (standing f vs)) ≤ length (cond x (write_at v.cursor v.k v.value ∷ version_writes k (standing f vs)) (version_writes k (standing f vs)))) (sym e) (omega arith)
+      by true false e = subst (λ x. length (version_writes k (standing f vs)) ≤ length (cond x (write_at v.cursor v.k v.value ∷ version_writes k (standing f vs)) (version_writes k (standing f vs)))) (sym e) (omega arith)
+
+  its_own : (v : Version) (vs : List Version) → leb f v.cursor ≡ true → 0 < length (version_writes v.key (standing f (v ∷ vs)))
+  its_own v vs e =
+      subst (λ b. 0 < length (version_writes v.key (cond b (v ∷ standing f vs) (standing f vs)))) (sym e)
+      (subst (λ b. 0 < length (cond b (write_at v.cursor v.k v.value ∷ version_writes v.key (standing f vs)) (version_writes v.key (standing f vs)))) (sym (key_itself v.key)) (omega arith))
+
+  pub have_standing : (vs : List Version) → ((k : List ℕ) → 0 < length (version_writes k (standing f vs)) → has_key k es ≡ true) → AllHave es (standing f vs)
+  have_standing [] h = tt
+  have_standing (v ∷ vs) h = by (leb f v.cursor) refl (have_standing vs (λ k lt. h k (omega (arith, lt, one_more k v vs))))
+    where
+      by : (p : Bool) → leb f v.cursor ≡ p → AllHave es (standing f vs) → AllHave es (cond p (v ∷ standing f vs) (standing f vs))
+      by true e ih = (h v.key (its_own v vs e), ih)
+      by false e ih = ih
+
+  pub have_at : (c : ℕ) (vs : List Version) → f ≤ c → ((k : List ℕ) → 0 < length (version_writes k (standing f vs)) → has_key k es ≡ true) → AllHave es (filter (λ v. eqb c v.cursor) vs)
+  have_at c [] le h = tt
+  have_at c (v ∷ vs) le h = by (eqb c v.cursor) refl (have_at c vs le (λ k lt. h k (omega (arith, lt, one_more k v vs))))
+    where
+      by : (p : Bool) → eqb c v.cursor ≡ p → AllHave es (filter (λ u. eqb c u.cursor) vs) → AllHave es (cond p (v ∷ filter (λ u. eqb c u.cursor) vs) (filter (λ u. eqb c u.cursor) vs))
+      by true e ih = (h v.key (its_own v vs (let t : leb f v.cursor ≡ true = grind (arith, nat_tests) in t)), ih)
+      by false e ih = ih
+
+count_le : (c : ℕ) (ws : List Write) → length (at_cursor c ws) ≤ length ws
+count_le c [] = omega arith
+count_le c (w ∷ ws) = by (eqb c w.first) (count_le c ws)
+  where
+    by : (b : Bool) → length (at_cursor c ws) ≤ length ws → length (cond b (w ∷ at_cursor c ws) (at_cursor c ws)) ≤ suc (length ws)
+    by true h = omega arith
+    by false h = omega arith
+
+pub counts_le : (c : ℕ) (es : List (List ℕ × KeptObject)) → sum_by (count_in c) (values_of es) ≤ total es
+counts_le c [] = omega arith
+counts_le c (e ∷ es) = omega (arith, counts_le c es, count_le c e.1.versions, sum_by-cons (count_in c) e.1 (values_of es), sum_by-cons count_of e.1 (values_of es))
+
+module _ (kept : Kept) (m : Store) (records : List (Live Body)) (stands : StandsFor kept m records) where
+  entries : (k : List ℕ) → 0 < length (version_writes k (standing m.floor m.versions)) → has_key k kept.objects ≡ true
+  entries k h = has_entry kept m records stands k (λ e.
+      let n : length (in_order (version_writes k (standing m.floor m.versions))) ≡ 0 = ap (λ (o : KeptObject). length o.versions) e in
+      let l = length_in_order (version_writes k (standing m.floor m.versions)) in let z : ⊥ = omega arith in z)
+
+  pub versions_at_is : (c : ℕ) → m.floor ≤ c → sum_by (count_in c) (values_of kept.objects) ≡ versions_at c m.versions
+  versions_at_is c le =
+      sum_by_keys (count_in c) (λ k. length (version_writes k (filter (λ v. eqb c v.cursor) m.versions))) kept.objects stands.sound.keys
+        (λ k has. ap (count_in c) (stands.objects k) ∙ count_in_order c (version_writes k (standing m.floor m.versions)) ∙ ap length (count_versions m.floor c k m.versions le))
+      ∙ versions_sum kept.objects (filter (λ v. eqb c v.cursor) m.versions) stands.sound.keys (have_at m.floor kept.objects c m.versions le entries)
+
+  pub total_is : total kept.objects ≡ key_sum (λ k. base_count (base_of k m records)) kept.objects + length (standing m.floor m.versions)
+  total_is =
+      sum_by_keys count_of (λ k. base_count (base_of k m records) + length (version_writes k (standing m.floor m.versions))) kept.objects stands.sound.keys
+        (λ k has. ap count_of (stands.objects k) ∙ ap (λ (n : ℕ). base_count (base_of k m records) + n) (length_in_order (version_writes k (standing m.floor m.versions))))
+      ∙ key_sum_plus (λ k. base_count (base_of k m records)) (λ k. length (version_writes k (standing m.floor m.versions))) kept.objects
+      ∙ ap (λ (n : ℕ). key_sum (λ k. base_count (base_of k m records)) kept.objects + n)
+        (versions_sum kept.objects (standing m.floor m.versions) stands.sound.keys (have_standing m.floor kept.objects m.versions entries))

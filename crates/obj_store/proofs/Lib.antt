@@ -14,5 +14,6 @@ pub mod Sweeping
 pub mod Swept
 pub mod Opening
 pub mod Counting
+pub mod NameCount
 pub mod Held
 pub mod Opened

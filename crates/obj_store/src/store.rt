@@ -211,6 +211,7 @@ impl ObjStore {
     pub fn versions_at(&self, cursor: Seqnum) -> u64
         ensures { (m : Store) (records : List (Live Body)) → StandsFor self.now m records → m.floor ≤ cursor.0 → result ≡ model.versions_at cursor.0 m.versions }
     {
-        every::count_at(&self.objects, cursor)
+        // No more versions stand there than values are kept.
+        every::count_at(&self.objects, cursor).min(self.held)
     }
 }
