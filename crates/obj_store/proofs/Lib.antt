@@ -15,5 +15,6 @@ pub mod Swept
 pub mod Opening
 pub mod Counting
 pub mod NameCount
+pub mod KeyCount
 pub mod Held
 pub mod Opened

@@ -38,7 +38,7 @@ module _ (key : List ℕ) (named : List Stored) where
       each_with n x.seq (logged_write x.holds) (logged_writes key named xs) fall.0 fall.1
       (weaker x.seq n (let g = fall.1 in omega arith) (logged_writes key named xs) (each_logged x.seq xs fall.2))
 
-  skipped : (c seq : ℕ) (w : Option Said) (ws : List Write) → ltb seq c ≡ false → last_below c 0 (with (if_key key seq named w) ws) ≡ last_below c 0 ws
+  pub skipped : (c seq : ℕ) (w : Option Said) (ws : List Write) → ltb seq c ≡ false → last_below c 0 (with (if_key key seq named w) ws) ≡ last_below c 0 ws
   skipped c seq None ws e = refl
   skipped c seq (Some w) ws e = by (bytes_eq key w.0) (here_or_named w.1.1 w.1.0 named)
     where
@@ -61,7 +61,7 @@ module _ (key : List ℕ) (named : List Stored) where
       (0 < l.0) × ((v : Value) → here_or_named l.1.1 l.1.0 named ≡ Some v → last_below c 0 ws ≡ Some (write_at l.0 0 v))
       × ((f : ℕ) → f ≤ c → l.0 < f → last_below c 0 ws ≡ last_below f 0 ws)
 
-  all_low : (c f : ℕ) (ws : List Write) → f ≤ c → Each (IsLogged f) ws → last_below c 0 ws ≡ last_below f 0 ws
+  pub all_low : (c f : ℕ) (ws : List Write) → f ≤ c → Each (IsLogged f) ws → last_below c 0 ws ≡ last_below f 0 ws
   all_low c f [] le h = refl
   all_low c f (w ∷ ws) le h =
       let lt = h.0.1 in

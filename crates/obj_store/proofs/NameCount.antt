@@ -80,6 +80,6 @@ differ f records (s ∷ ss) h = by (is_settled s.name f records) (differ f recor
 module _ (kept : Kept) (m : Store) (records : List (Live Body)) (stands : StandsFor kept m records) where
   pub names_count : length kept.named ≡ length (unsettled m.floor records m.named)
   names_count =
-      hash_map_len_from_get name_laws (hash_map kept.named tt 0) (hash_map (entries_of (unsettled m.floor records m.named)) tt 0) stands.sound.names (differ m.floor records m.named stands.differ)
+      hash_map_len_from_get name_laws {S = ℕ} {T = ℕ} (hash_map kept.named 0 0) (hash_map (entries_of (unsettled m.floor records m.named)) 0 0) stands.sound.names (differ m.floor records m.named stands.differ)
         (λ q. stands.named (record { path = q.0; place = q.1 }) ∙ sym (find_entries q (unsettled m.floor records m.named) ∙ unsettled_value (record { path = q.0; place = q.1 }) m.floor records m.named))
       ∙ length_entries (unsettled m.floor records m.named)
