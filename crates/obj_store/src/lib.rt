@@ -13,8 +13,10 @@ mod object;
 mod objects;
 mod steps;
 mod store;
+#[cfg(test)]
+mod tests;
 mod writes;
 
 
-pub use crate::store::ObjStore;
 pub use crate::answers::{Logged, Read};
+pub use crate::store::ObjStore;
