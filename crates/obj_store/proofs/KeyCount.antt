@@ -29,7 +29,7 @@ Keys = List (List ℕ × Value)
 abbrev pub present : List ℕ → Keys → Bool
 present k ks = is_some (get k ks)
 
-present_put : (q k : List ℕ) (v : Value) (ks : Keys) → present q (put k v ks) ≡ (bytes_eq q k || present q ks)
+pub present_put : (q k : List ℕ) (v : Value) (ks : Keys) → present q (put k v ks) ≡ (bytes_eq q k || present q ks)
 present_put q k v ks = ap is_some (find-put key_order nat_list_cmp_total q k v ks) ∙ ap (λ b. is_some (cond b (Some v) (get q ks))) (is_eq-slice_cmp q k) ∙ by (bytes_eq q k)
   where
     by : (b : Bool) → is_some (cond b (Some v) (get q ks)) ≡ (b || present q ks)
@@ -43,7 +43,7 @@ module _ (es : List (List ℕ × KeptObject)) (distinct : IsDistinct bytes_eq (k
   counts_none : Counts []
   counts_none = (tt, λ h. sym (key_sum_zero es))
 
-  counts_put : (key : List ℕ) (v : Value) (ks : Keys) → Counts ks → Counts (put key v ks)
+  pub counts_put : (key : List ℕ) (v : Value) (ks : Keys) → Counts ks → Counts (put key v ks)
   counts_put key v ks h = (is_sorted-put key_order nat_list_cmp_total key v ks h.0, λ all. by (present key ks) refl (h.1 (λ k is. all k (present_put k key v ks ∙ or_true (bytes_eq k key) is)))
       (all key (present_put key key v ks ∙ ap (λ b. b || present key ks) (nat_list_eq_equiv.refl key))))
     where
@@ -69,11 +69,11 @@ module _ (es : List (List ℕ × KeptObject)) (distinct : IsDistinct bytes_eq (k
           ∙ key_sum_same (λ k. one_at key k + cond (present k ks) 1 0) (λ k. cond (present k (put key v ks)) 1 0) es
             (λ k. sym (ap (λ b. cond b 1 0) (present_put k key v ks) ∙ added is k (bytes_eq k key) refl ∙ ap (λ b. cond b 1 0 + cond (present k ks) 1 0) (nat_list_eq_equiv.symm k key)))
 
-  counts_initial : (objects : Keys) → Counts (initial_keys objects)
+  pub counts_initial : (objects : Keys) → Counts (initial_keys objects)
   counts_initial [] = counts_none
   counts_initial (x ∷ xs) = counts_put x.0 _ (initial_keys xs) (counts_initial xs)
 
-  counts_logged : (n : ℕ) (xs : List (Live Body)) (ks : Keys) → Counts ks → Counts (logged_keys_below n xs ks)
+  pub counts_logged : (n : ℕ) (xs : List (Live Body)) (ks : Keys) → Counts ks → Counts (logged_keys_below n xs ks)
   counts_logged n [] ks h = h
   counts_logged n (x ∷ xs) ks h = by (ltb x.seq n) (logged_write x.holds) (counts_logged n xs ks h)
     where
@@ -95,7 +95,7 @@ module _ (es : List (List ℕ × KeptObject)) (distinct : IsDistinct bytes_eq (k
 
 -- which keys are there
 
-some_later : (w : Write) (o : Option Write) → is_some (later w o) ≡ true
+pub some_later : (w : Write) (o : Option Write) → is_some (later w o) ≡ true
 some_later w None = refl
 some_later w (Some v) = by (is_below w.first w.second v.first v.second)
   where
@@ -103,11 +103,11 @@ some_later w (Some v) = by (is_below w.first w.second v.first v.second)
     by true = refl
     by false = refl
 
-some_last : (a b : Option Write) → is_some (last_of a b) ≡ (is_some a || is_some b)
+pub some_last : (a b : Option Write) → is_some (last_of a b) ≡ (is_some a || is_some b)
 some_last None b = refl
 some_last (Some w) b = some_later w b
 
-initial_present : (k : List ℕ) (objects : Keys) → present k (initial_keys objects) ≡ is_some (get k objects)
+pub initial_present : (k : List ℕ) (objects : Keys) → present k (initial_keys objects) ≡ is_some (get k objects)
 initial_present k [] = refl
 initial_present k (x ∷ xs) = present_put k x.0 _ (initial_keys xs) ∙ by (bytes_eq k x.0) (initial_present k xs) ∙ sym (ap (λ b. is_some (cond b (Some x.1) (get k xs))) (is_eq-slice_cmp k x.0))
   where
@@ -115,14 +115,14 @@ initial_present k (x ∷ xs) = present_put k x.0 _ (initial_keys xs) ∙ by (byt
     by true ih = refl
     by false ih = ih
 
-initial_some : (k : List ℕ) (objects : Keys) → is_some (initial_write k objects) ≡ is_some (get k objects)
+pub initial_some : (k : List ℕ) (objects : Keys) → is_some (initial_write k objects) ≡ is_some (get k objects)
 initial_some k objects = by (get k objects)
   where
     by : (o : Option Value) → is_some (last_below 1 0 (with (option_map (write_at 0 0) o) [])) ≡ is_some o
     by None = refl
     by (Some v) = ap (λ b. is_some (cond b (Some (write_at 0 0 v)) None)) (let t : is_below 0 0 1 0 ≡ true = grind (arith, nat_tests) in t)
 
-logged_present : (k : List ℕ) (n : ℕ) (named : List Stored) (ks : Keys) (xs : List (Live Body)) → HaveValues n named xs
+pub logged_present : (k : List ℕ) (n : ℕ) (named : List Stored) (ks : Keys) (xs : List (Live Body)) → HaveValues n named xs
     → present k (logged_keys_below n xs ks) ≡ (is_some (last_below n 0 (logged_writes k named xs)) || present k ks)
 logged_present k n named ks [] h = refl
 logged_present k n named ks (x ∷ xs) h = by (ltb x.seq n) refl (logged_write x.holds) h.0 (logged_present k n named ks xs h.1)

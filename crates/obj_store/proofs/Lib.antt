@@ -16,5 +16,7 @@ pub mod Opening
 pub mod Counting
 pub mod NameCount
 pub mod KeyCount
+pub mod LawProofs
+pub mod KeyLists
 pub mod Held
 pub mod Opened

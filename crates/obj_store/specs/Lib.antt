@@ -4,3 +4,5 @@ pub mod StandsFor
 pub mod Steps
 pub mod Sweeps
 pub mod Answers
+pub mod Keys
+pub mod Laws

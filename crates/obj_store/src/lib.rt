@@ -8,9 +8,11 @@
 mod answers;
 mod every;
 mod key;
+pub mod laws;
 mod names;
 mod object;
 mod objects;
+mod sorted;
 mod steps;
 mod store;
 #[cfg(test)]

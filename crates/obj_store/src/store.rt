@@ -7,6 +7,7 @@ ghost use Rattle.boki_model.specs.LogLaws.{FallBelow};
 ghost use Rattle.boki_model.specs.Writes as model;
 ghost use Rattle.boki_model.specs.Writes.{Store};
 ghost use Rattle.obj_store.specs.Answers.{IsTold, shown};
+ghost use Rattle.obj_store.specs.Keys.{keys_in};
 ghost use Rattle.obj_store.specs.StandsFor.{StandsFor, IsUnchanged};
 ghost use Rattle.obj_store.specs.Sweeps.{AllHaveValues, logged_between};
 
@@ -17,6 +18,7 @@ use crate::names::Names;
 use crate::object::{Case, standing};
 use crate::objects;
 use crate::objects::Objects;
+use crate::sorted;
 use crate::steps;
 use boki_types::{Fenced, Name, Named, Put, Settled};
 use lb_base::{List, Memory, Seqnum, Value, Words};
@@ -213,5 +215,14 @@ impl ObjStore {
     {
         // No more versions stand there than values are kept.
         every::count_at(&self.objects, cursor).min(self.held)
+    }
+
+    /// The keys of the objects that have an initial object, a version or a settled write, each once, in the order of their bytes; or
+    /// `Memory`.
+    pub fn keys(&self) -> Result<List<Words>, Memory>
+        ensures { IfOk result (λ ks. (m : Store) (records : List (Live Body)) → StandsFor self.now m records → ks ≡ keys_in m records) }
+    {
+        let keys = sorted::keys(&self.objects, self.alloc)?;
+        Ok(List::from_vec(keys))
     }
 }
