@@ -1,0 +1,11 @@
+use Rattle.std.proofs.Common.{◌≡◌, ◌∙◌, [], length, take, ap, sym, arith}
+use Rattle.obj_store.specs.Keys.{with_key, with_keys}
+use Rattle.obj_store.proofs.Fronts.{some_entry}
+use Rattle.obj_store.proofs.KeyLists.{with_keys_more}
+use Rattle.obj_store.proofs.sorted.sorted_keys.Goals as goal
+
+pub loop-place-preserved : goal.loop-place-preserved
+loop-place-preserved c =
+    let there = some_entry c.args.objects.now.entries c.loop-place.place (omega arith) in
+    c.in_ok-add_key.ensures there.0 there.1 ∙ ap (with_key there.0) c.loop-place.invariant
+    ∙ sym (with_keys_more c.args.objects.now.entries c.loop-place.place there.0 [] there.1)

@@ -1,0 +1,162 @@
+//! One object of the store.
+
+ghost use Rattle.std.specs.Prelude.{◌≡◌, ◌↔◌, ℕ, suc, max, nat_le, [], filter, length, option_copied, unwrap_or, ◌==◌, Some, IfOk, OnOk, OnErr, IsTrue};
+ghost use Rattle.boki_model.specs.Reads.{or_else};
+ghost use Rattle.boki_model.specs.Writes.{write_at, later, last_below};
+ghost use Rattle.obj_store.specs.Ascending.{Ascend, has_at};
+ghost use Rattle.obj_store.specs.Kept.{KeptObject, blank, count_of, put_in};
+ghost use Rattle.obj_store.specs.Steps.{case_of, settled_at};
+
+use crate::writes::{Placed, count_at, has_write, keep_from, last_upto, pop_below};
+use lb_base::{Memory, Seqnum, Value};
+use std::alloc::Global;
+use std::marker::Model;
+
+/// What the store keeps of an object: the last write below the floor, or the initial object; the versions at or above the floor,
+/// in the order of their positions; and the fence, 0 where none was raised.
+#[derive(Debug, Drop)]
+pub struct Object {
+    base: Option<Placed>,
+    versions: Vec<Placed>,
+    fence: u64,
+}
+
+impl Model for Object {
+    ghost use Rattle.obj_store.specs.Kept.{KeptObject};
+
+    ghost Value = { KeptObject };
+
+    ghost view = { λ o. record { base = o.base; versions = o.versions.items; fence = o.fence } };
+}
+
+impl Object {
+    /// An object that was never written or read. It takes no memory.
+    pub fn new(alloc: Global) -> Object
+        ensures { result ≡ blank }
+    {
+        Object {
+            base: None,
+            versions: Vec::new(alloc),
+            fence: 0,
+        }
+    }
+
+    /// An object with an initial value.
+    pub fn initial(alloc: Global, value: &Value) -> Result<Object, Memory>
+        ensures { IfOk result (λ o. o ≡ record blank { base = Some (write_at 0 0 value.now) }) }
+    {
+        let value = value.clone()?;
+        Ok(Object {
+            base: Some(Placed::new(0, 0, value)),
+            versions: Vec::new(alloc),
+            fence: 0,
+        })
+    }
+
+    /// How many writes are kept.
+    pub fn len(&self) -> u64
+        ensures { result ≡ count_of self.now }
+    {
+        let versions = self.versions.len() as u64;
+        if self.base.is_some() { versions + 1 } else { versions }
+    }
+
+    /// Whether no write is kept.
+    pub fn is_empty(&self) -> bool
+        ensures { IsTrue result ↔ (count_of self.now ≡ 0) }
+    {
+        self.len() == 0
+    }
+
+    /// The fence.
+    pub fn fence(&self) -> u64
+        ensures { result ≡ self.now.fence }
+    {
+        self.fence
+    }
+
+    /// Whether the version is there.
+    pub fn has(&self, cursor: Seqnum, k: u64) -> bool
+        ensures { Ascend self.now.versions → result ≡ has_at cursor.0 k self.now.versions }
+    {
+        has_write(self.versions.as_slice(), cursor.0, k)
+    }
+
+    /// How many versions stand at a cursor.
+    pub fn count_at(&self, cursor: Seqnum) -> u64
+        ensures { Ascend self.now.versions → result ≡ length (filter (λ w. cursor.0 == w.first) self.now.versions) }
+    {
+        count_at(self.versions.as_slice(), cursor.0) as u64
+    }
+
+    /// The last version whose first number is at most `last`, or else the base.
+    pub fn last_upto(&self, last: u64) -> Option<&Placed>
+        ensures { Ascend self.now.versions → option_copied result ≡ or_else (last_below (suc last) 0 self.now.versions) self.now.base }
+    {
+        match last_upto(self.versions.as_slice(), last) {
+            Some(version) => Some(version),
+            None => self.base.as_ref(),
+        }
+    }
+
+    /// Puts a version in at its place. After `Memory` the object is as before.
+    pub fn put(&mut self, version: Placed) -> Result<(), Memory>
+        ensures ok { Ascend self.old.versions → OnOk result (self.new ≡ record self.old { versions = put_in version self.old.versions }) }
+        ensures err { OnErr result (self.new ≡ self.old) }
+    {
+        let place = version.place_in(self.versions.as_slice());
+        self.versions.insert(place, version)?;
+        Ok(())
+    }
+
+    /// Raises the fence to at least `at`.
+    pub fn raise(&mut self, at: Seqnum)
+        ensures { self.new ≡ record self.old { fence = max at.0 self.old.fence } }
+    {
+        if self.fence < at.0 {
+            self.fence = at.0;
+        }
+    }
+
+    /// Makes the last version below the floor the base, and drops the versions before it.
+    pub fn settle(&mut self, floor: Seqnum)
+        ensures { Ascend self.old.versions → self.new ≡ settled_at floor.0 self.old }
+    {
+        if let Some(last) = pop_below(&mut self.versions, floor.0) {
+            self.base = Some(last);
+        }
+        keep_from(&mut self.versions, floor.0);
+    }
+
+    /// Makes a logged write the base, where it isn't before the base.
+    pub fn lift(&mut self, write: Placed)
+        ensures { self.new ≡ record self.old { base = later write self.old.base } }
+    {
+        match &self.base {
+            Some(base) if write.is_before_write(base) => {}
+            _ => self.base = Some(write),
+        }
+    }
+}
+
+/// How a version stands to its object.
+#[derive(Clone, Copy, Debug, PartialEq, Eq)]
+pub enum Case {
+    /// It is there.
+    There,
+    /// It isn't there, and the fence is above its cursor.
+    Fenced,
+    /// It isn't there, and may be put in.
+    Free,
+}
+
+/// How a version stands to an object, where an object that has no entry was never written or read.
+pub fn standing(object: Option<&Object>, cursor: Seqnum, k: u64) -> Case
+    ensures { let o = unwrap_or (option_copied object.entry) blank in Ascend o.versions → result ≡ case_of cursor.0 k o }
+{
+    match object {
+        Some(object) if object.has(cursor, k) => Case::There,
+        Some(object) if cursor.0 < object.fence() => Case::Fenced,
+        _ => Case::Free,
+    }
+}
