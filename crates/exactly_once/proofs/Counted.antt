@@ -175,15 +175,15 @@ module _ (setup : Setup) (fs : List Function) (w : World) (holds : Holds setup f
       let no_way : Some outcome ≡ None = sym (ap (λ t. cond t (Some outcome) None) own) ∙ none in let h : ⊥ = cc in h)
   operation_of (b.Write q j place key here_is) e none fits =
       operation (b.Write q j place key here_is) q j (o.Write key fits.value) a.Done e fits.asks refl (ap (λ (s : List ℕ × ℕ). bytes_eq p s.0) (same_step (q, j) (p, i) e) ∙ same_itself p)
-  operation_of (b.Read q j key) e none fits = operation (b.Read q j key) q j (o.Read key) _ e fits (refl) refl
-  operation_of (b.ReadGroup q j keys) e none fits = operation (b.ReadGroup q j keys) q j (o.ReadGroup keys) _ e fits (refl) refl
-  operation_of (b.Spawn q j ordinal name args) e none fits = operation (b.Spawn q j ordinal name args) q j (o.Spawn ordinal fits.function args) _ e fits.asks (refl) refl
+  operation_of (b.Read q j key) e none fits = operation (b.Read q j key) q j (o.Read key) _ e fits refl refl
+  operation_of (b.ReadGroup q j keys) e none fits = operation (b.ReadGroup q j keys) q j (o.ReadGroup keys) _ e fits refl refl
+  operation_of (b.Spawn q j ordinal name args) e none fits = operation (b.Spawn q j ordinal name args) q j (o.Spawn ordinal fits.function args) _ e fits.asks refl refl
   operation_of (b.Join q j ordinal) e none fits = operation (b.Join q j ordinal) q j (o.Join ordinal) _ e fits.asks (ap joined fits.result) refl
-  operation_of (b.Push q j queue value) e none fits = operation (b.Push q j queue value) q j (o.Push queue value) _ e fits (refl) refl
-  operation_of (b.Pop q j queue) e none fits = operation (b.Pop q j queue) q j (o.Pop queue) _ e fits (refl) refl
-  operation_of (b.TxnBegin q j names) e none fits = operation (b.TxnBegin q j names) q j (o.Begin names) _ e fits (refl) refl
-  operation_of (b.TxnCommit q j begin names writes) e none fits = operation (b.TxnCommit q j begin names writes) q j (o.Commit names writes) _ e fits.asks (refl) refl
-  operation_of _ e none fits = let no_way : None ≡ Some (p, i) = e in cc
+  operation_of (b.Push q j queue value) e none fits = operation (b.Push q j queue value) q j (o.Push queue value) _ e fits refl refl
+  operation_of (b.Pop q j queue) e none fits = operation (b.Pop q j queue) q j (o.Pop queue) _ e fits refl refl
+  operation_of (b.TxnBegin q j names) e none fits = operation (b.TxnBegin q j names) q j (o.Begin names) _ e fits refl refl
+  operation_of (b.TxnCommit q j begin names writes) e none fits = operation (b.TxnCommit q j begin names writes) q j (o.Commit names writes) _ e fits.asks refl refl
+  operation_of _ e none fits = let no_way : ◌≡◌ {A = Option (List ℕ × ℕ)} None (Some (p, i)) = e in cc
 
   pub is_operation : finish_of p x.holds ≡ None → Operates x.holds
   is_operation none = operation_of x.holds step none (fit_tail setup fs store (x ∷ xs) now tail holds.sound.fit).0
