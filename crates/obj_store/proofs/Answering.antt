@@ -1,18 +1,15 @@
 -- The answers of reads, by what the store is told.
-use Rattle.std.proofs.Common.{◌≡◌, ℕ, zero, suc, ◌+◌, ◌-◌, ◌<◌, ◌≤◌, ltb, leb, eqb, Bool, true, false, cond, List, [], ◌∷◌, Option, Some, None, option_map, refl, sym, ap, ◌∙◌, subst, arith}
+use Rattle.std.proofs.Common.{◌≡◌, ℕ, zero, suc, ◌-◌, ◌≤◌, ltb, eqb, false, cond, List, [], ◌∷◌, Option, Some, None, option_map, refl, sym, ap, ◌∙◌, arith}
 use Rattle.std.proofs.lemmas.Bool.Decides.{nat_tests}
 use Rattle.std.specs.Option.{MatchOption}
-use Rattle.lb_base.specs.declared.value.Value.{Value}
 use Rattle.boki_types.specs.declared.body.Body.{Body}
-use Rattle.boki_types.specs.declared.store.Name.{Name}
-use Rattle.boki_types.specs.declared.store.Fenced.{Fenced}
 use Rattle.boki_types.specs.declared.store.Fenced.TheVariants as f
 use Rattle.boki_model.specs.Live.{Live}
 use Rattle.boki_model.specs.Writes.{Store, Write, last, last_below, later, is_below, writes_of, found, read_free, read_fenced}
 use Rattle.obj_store.specs.declared.answers.Logged.{Logged}
 use Rattle.obj_store.specs.Answers.{IsTold, told}
-use Rattle.obj_store.specs.Kept.{Kept, KeptObject, object_in}
-use Rattle.obj_store.specs.StandsFor.{StandsFor, last_logged, IsCovered}
+use Rattle.obj_store.specs.Kept.{Kept, object_in}
+use Rattle.obj_store.specs.StandsFor.{StandsFor, IsCovered}
 use Rattle.obj_store.specs.Steps.{value_upto, value_before}
 use Rattle.obj_store.proofs.Reading.{read_is}
 

@@ -1,15 +1,14 @@
 -- How many writes and versions an object store keeps, where it stands for a store.
-use Rattle.std.proofs.Common.{◌≡◌, ℕ, zero, suc, ◌+◌, ◌<◌, ◌≤◌, ltb, leb, eqb, Bool, true, false, cond, not, ◌&&◌, ◌||◌, List, [], ◌∷◌, length, filter, sum_by, bytes_eq, Option, Some, None, is_some, unwrap_or, refl, sym, ap, ◌∙◌, subst, arith}
+use Rattle.std.proofs.Common.{◌≡◌, ℕ, ◌+◌, Bool, true, false, cond, List, [], ◌∷◌, sum_by, bytes_eq, Some, None, is_some, unwrap_or, refl, sym, ap, ◌∙◌, arith}
 use Rattle.std.specs.List.{IsDistinct}
 use Rattle.std.specs.Map.{lookup, keys_of, values_of}
 use Rattle.std.specs.Cmp.Lexicographic.{nat_list_eq_equiv}
 use Rattle.std.proofs.lemmas.List.Sums.{sum_by-cons}
-use Rattle.std.proofs.lemmas.Map.{NonePasses, lookup-none}
+use Rattle.std.proofs.lemmas.Map.{lookup-none}
 use Rattle.std.proofs.lemmas.Map.Entries.{none_past_head}
 use Rattle.std.proofs.lemmas.Map.Keys.{IsDistinct-tail}
-use Rattle.std.proofs.lemmas.Bool.Decides.{nat_tests}
 use Rattle.obj_store.specs.Kept.{KeptObject, blank, object_in, has_key}
-use Rattle.obj_store.proofs.Entries.{same_key, key_itself}
+use Rattle.obj_store.proofs.Entries.{key_itself}
 
 -- the sum of a number for each key
 abbrev pub key_sum : (List ℕ → ℕ) → List (List ℕ × KeptObject) → ℕ
@@ -56,8 +55,8 @@ sum_by_keys f g [] distinct h = refl
 sum_by_keys f g (e ∷ es) distinct h =
     sum_by-cons f e.1 (values_of es)
     ∙ (let here : f e.1 ≡ g e.0 = ap (λ b. f (unwrap_or (cond b (Some e.1) (lookup (bytes_eq e.0) es)) blank)) (sym (key_itself e.0))
-          ∙ h e.0 (ap (λ b. is_some (cond b (Some e.1) (lookup (bytes_eq e.0) es))) (key_itself e.0)) in
-      let rest = sum_by_keys f g es (IsDistinct-tail bytes_eq e.0 (keys_of es) distinct) later in omega arith)
+    ∙ h e.0 (ap (λ b. is_some (cond b (Some e.1) (lookup (bytes_eq e.0) es))) (key_itself e.0)) in
+    let rest = sum_by_keys f g es (IsDistinct-tail bytes_eq e.0 (keys_of es) distinct) later in omega arith)
   where
     later : (k : List ℕ) → has_key k es ≡ true → f (object_in k es) ≡ g k
     later k has = by (bytes_eq k e.0) refl

@@ -1,5 +1,5 @@
 -- Objects by their keys, as entries in a list: what a change of one of them leaves.
-use Rattle.std.proofs.Common.{◌≡◌, ℕ, ◌+◌, Bool, true, false, cond, ◌||◌, if◌then◌else◌, is_some, List, [], ◌∷◌, Option, Some, None, unwrap_or, sum_by, bytes_eq, refl, sym, ap, ◌∙◌, subst, arith}
+use Rattle.std.proofs.Common.{◌≡◌, ℕ, ◌+◌, Bool, true, false, cond, ◌||◌, if◌then◌else◌, is_some, List, [], ◌∷◌, Option, Some, None, unwrap_or, bytes_eq, refl, sym, ap, ◌∙◌, subst, arith}
 use Rattle.std.specs.List.{IsDistinct, list_any}
 use Rattle.std.specs.Map.{lookup, set_value, keys_of, values_of}
 use Rattle.std.specs.Option.{IsSome}
@@ -41,10 +41,10 @@ module _ (key : List ℕ) (f : KeptObject → KeptObject) (es fs : List (List �
     objects = changed_at;
     keys = ap keys_of set ∙ keys-set_value (bytes_eq key) es w;
     total =
-      ap (λ (l : List (List ℕ × KeptObject)). total l + count_of (object_in key es)) set
-      ∙ ap (λ (o : KeptObject). total (set_value (bytes_eq key) es w) + count_of o) (object_here key es v is)
-      ∙ sum_by-set_value count_of (bytes_eq key) es v w is
-      ∙ ap (λ (o : KeptObject). total es + count_of o) (to ∙ ap f (sym (object_here key es v is)));
+        ap (λ (l : List (List ℕ × KeptObject)). total l + count_of (object_in key es)) set
+        ∙ ap (λ (o : KeptObject). total (set_value (bytes_eq key) es w) + count_of o) (object_here key es v is)
+        ∙ sum_by-set_value count_of (bytes_eq key) es v w is
+        ∙ ap (λ (o : KeptObject). total es + count_of o) (to ∙ ap f (sym (object_here key es v is)));
   }
 
 -- whether there is an entry of a key, by the keys

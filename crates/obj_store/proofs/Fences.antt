@@ -1,5 +1,5 @@
 -- An object store that stands for a store, after fences were raised or a value was stored under a name.
-use Rattle.std.proofs.Common.{◌≡◌, ℕ, zero, suc, ◌+◌, ◌<◌, ◌≤◌, ltb, leb, eqb, max, Bool, true, false, cond, not, ◌&&◌, ◌||◌, List, [], ◌∷◌, ◌++◌, length, filter, bytes_eq, Option, Some, None, is_some, option_map, refl, sym, ap, ◌∙◌, subst, arith}
+use Rattle.std.proofs.Common.{◌≡◌, ℕ, ◌+◌, ◌<◌, ltb, eqb, max, Bool, true, false, cond, ◌&&◌, ◌||◌, List, [], ◌∷◌, length, bytes_eq, Option, Some, None, is_some, option_map, refl, sym, ap, ◌∙◌, subst, arith}
 use Rattle.std.specs.List.{IsDistinct}
 use Rattle.std.specs.Map.{keys_of}
 use Rattle.std.specs.Cmp.Lexicographic.{nat_list_eq_equiv}
@@ -11,9 +11,9 @@ use Rattle.boki_types.specs.declared.store.Named.TheVariants as n
 use Rattle.boki_model.specs.Live.{Live}
 use Rattle.boki_model.specs.Reads.{or_else}
 use Rattle.boki_model.specs.Maps.{has}
-use Rattle.boki_model.specs.Writes.{Stored, Version, Store, Write, Raised, is_below, later, last_below, logged_write, logged_writes, version_writes, write_at, fence, raised, after_fenced, with, if_key, here_or_named, names_write, same_name, value_of, is_settled, named_put, name_if_new, after_named}
+use Rattle.boki_model.specs.Writes.{Stored, Store, Write, Raised, is_below, later, last_below, logged_write, logged_writes, version_writes, write_at, fence, raised, after_fenced, with, if_key, here_or_named, names_write, same_name, value_of, is_settled, named_put, name_if_new, after_named}
 use Rattle.obj_store.specs.Kept.{Kept, KeptObject, object_in, last_of, is_name, value_in, total}
-use Rattle.obj_store.specs.StandsFor.{StandsFor, IsSound, standing, kept_of, kept_under, initial_write, HasValue, HaveValues, NamesDiffer}
+use Rattle.obj_store.specs.StandsFor.{StandsFor, kept_of, initial_write, HasValue, HaveValues}
 use Rattle.obj_store.specs.Steps.{Widens, Changes, raised_to}
 use Rattle.obj_store.proofs.Entries.{same_key, key_itself}
 use Rattle.obj_store.proofs.Puts.{object_is}
@@ -92,12 +92,13 @@ module _ (name : Name) (value : Value) (named : List Stored) (f : ℕ) (key : Li
       by (Some w) lt is e h ih =
           ap (λ (o : Option (List ℕ × (Name × Option Value))). last_below f 0 (with (if_key key x.seq (record { name = name; value = value } ∷ named) o) (logged_writes key (record { name = name; value = value } ∷ named) xs))) is
           ∙ at lt e (subst (λ (o : Option (List ℕ × (Name × Option Value))). (lt && names_write name o) ≡ false) is (and_both (lt && names_write name (logged_write x.holds)) (is_settled name f xs) h).0)
-            (ih (and_both (lt && names_write name (logged_write x.holds)) (is_settled name f xs) h).1)
+          (ih (and_both (lt && names_write name (logged_write x.holds)) (is_settled name f xs) h).1)
           ∙ sym (ap (λ (o : Option (List ℕ × (Name × Option Value))). last_below f 0 (with (if_key key x.seq named o) (logged_writes key named xs))) is)
         where
           skip : (o : Option Write) (ws : List Write) → ((v : Write) → o ≡ Some v → is_below v.first v.second f 0 ≡ false) → last_below f 0 (with o ws) ≡ last_below f 0 ws
           skip None ws g = refl
           skip (Some v) ws g = ap (λ b. cond b (later v (last_below f 0 ws)) (last_below f 0 ws)) (g v refl)
+
           high : (ss : List Stored) → ltb x.seq f ≡ false → (v : Write) → if_key key x.seq ss (Some w) ≡ Some v → is_below v.first v.second f 0 ≡ false
           high ss e v is = first (bytes_eq key w.0) (here_or_named w.1.1 w.1.0 ss) is
             where
@@ -105,6 +106,7 @@ module _ (name : Name) (value : Value) (named : List Stored) (f : ℕ) (key : Li
               first true (Some u) is = subst (λ (y : Write). is_below y.first y.second f 0 ≡ false) (let s : write_at x.seq 0 u ≡ v = cc in s) (let t : is_below x.seq 0 f 0 ≡ false = grind (arith, nat_tests) in t)
               first true None is = absurd (let z : ⊥ = cc in z)
               first false o is = absurd (let z : ⊥ = cc in z)
+
           at : (lt : Bool) → ltb x.seq f ≡ lt → (lt && names_write name (Some w)) ≡ false
               → last_below f 0 (logged_writes key (record { name = name; value = value } ∷ named) xs) ≡ last_below f 0 (logged_writes key named xs)
               → last_below f 0 (with (if_key key x.seq (record { name = name; value = value } ∷ named) (Some w)) (logged_writes key (record { name = name; value = value } ∷ named) xs))
@@ -130,6 +132,7 @@ values_stay s named f (x ∷ xs) h = (λ lt. by (logged_write x.holds) (h.0 lt),
     at (Some v) b o h e = let z : ⊥ = cc in z
     at None true o h e = let z : ⊥ = cc in z
     at None false o h e = h e
+
     by : (w : Option (List ℕ × (Name × Option Value))) → HasValue named w → HasValue (s ∷ named) w
     by None h = tt
     by (Some w) h = at w.1.1 (same_name w.1.0 s.name) (value_of w.1.0 named) h
@@ -154,26 +157,32 @@ module _ (kept : Kept) (m : Store) (records : List (Live Body)) (stands : Stands
   done = sym (ap (λ b. cond b n.Gone n.Done) low)
 
   pub named_there : is_some (value_in name kept.named) ≡ true → (n.Done ≡ named_put name cursor value m) × StandsFor kept (after_named name cursor value m) records
-  named_there is = (done, subst (λ b. StandsFor kept (cond b m (record m { named = name_if_new name value m.named })) records) (sym low)
-      (subst (λ b. StandsFor kept (record m { named = cond b m.named (record { name = name; value = value } ∷ m.named) }) records) (sym (ap is_some (sym value_is) ∙ is)) stands))
+  named_there is = (
+    done,
+    subst (λ b. StandsFor kept (cond b m (record m { named = name_if_new name value m.named })) records) (sym low)
+        (subst (λ b. StandsFor kept (record m { named = cond b m.named (record { name = name; value = value } ∷ m.named) }) records) (sym (ap is_some (sym value_is) ∙ is)) stands),
+  )
 
   pub named_new : (gs : List ((List ℕ × ℕ) × Value)) (held : ℕ) → is_some (value_in name kept.named) ≡ false
       → ((q : Name) → value_in q gs ≡ cond (is_name (name.path, name.place) (q.path, q.place)) (Some value) (value_in q kept.named))
       → length gs ≡ length kept.named + 1 → IsDistinct is_name (keys_of gs) → held ≡ kept.held + 1
       → (n.Done ≡ named_put name cursor value m) × StandsFor (record kept { named = gs; held = held }) (after_named name cursor value m) records
-  named_new gs held is finds len distinct more = (done, subst (λ b. StandsFor (record kept { named = gs; held = held }) (cond b m (record m { named = name_if_new name value m.named })) records) (sym low)
-      (subst (λ b. StandsFor (record kept { named = gs; held = held }) (record m { named = cond b m.named (record { name = name; value = value } ∷ m.named) }) records) (sym (ap is_some (sym value_is) ∙ is)) record {
-        floor = stands.floor;
-        objects = λ k. stands.objects k ∙ object_is _ _ (sym (ap (λ (o : Option Write). last_of o (last_of (last_below m.floor 0 (version_writes k m.versions)) (initial_write k m.initial)))
-          (base_keeps name value m.named m.floor k records not_settled))) refl refl;
-        named = λ q. finds q ∙ by q (is_name (name.path, name.place) (q.path, q.place)) refl;
-        sound = record { keys = stands.sound.keys; names = distinct; count = omega (arith, more, len, stands.sound.count) };
-        numbered = stands.numbered;
-        differ = (none_of (value_of name m.named) (ap is_some (sym value_is) ∙ is), stands.differ);
-        valued = values_stay (record { name = name; value = value }) m.named m.floor records stands.valued;
-        end = stands.end;
-        falls = stands.falls;
-      }))
+  named_new gs held is finds len distinct more = (
+    done,
+    subst (λ b. StandsFor (record kept { named = gs; held = held }) (cond b m (record m { named = name_if_new name value m.named })) records) (sym low)
+        (subst (λ b. StandsFor (record kept { named = gs; held = held }) (record m { named = cond b m.named (record { name = name; value = value } ∷ m.named) }) records) (sym (ap is_some (sym value_is) ∙ is)) record {
+          floor = stands.floor;
+          objects = λ k. stands.objects k ∙ object_is _ _ (sym (ap (λ (o : Option Write). last_of o (last_of (last_below m.floor 0 (version_writes k m.versions)) (initial_write k m.initial)))
+              (base_keeps name value m.named m.floor k records not_settled))) refl refl;
+          named = λ q. finds q ∙ by q (is_name (name.path, name.place) (q.path, q.place)) refl;
+          sound = record { keys = stands.sound.keys; names = distinct; count = omega (arith, more, len, stands.sound.count) };
+          numbered = stands.numbered;
+          differ = (none_of (value_of name m.named) (ap is_some (sym value_is) ∙ is), stands.differ);
+          valued = values_stay (record { name = name; value = value }) m.named m.floor records stands.valued;
+          end = stands.end;
+          falls = stands.falls;
+        }),
+  )
     where
       by : (q : Name) (b : Bool) → same_name name q ≡ b
           → cond b (Some value) (value_in q kept.named) ≡ cond (is_settled q m.floor records) None (cond (same_name q name) (Some value) (value_of q m.named))
@@ -189,7 +198,7 @@ module _ (kept : Kept) (m : Store) (records : List (Live Body)) (stands : Stands
   one_raised key at fs gs low wide change =
       fences_raised kept m records stands (key ∷ []) at gs low
       (λ k. change.objects k ∙ ap (λ (o : KeptObject). cond (bytes_eq key k) (raised_to at o) o) (wide.objects k)
-        ∙ ap (λ b. cond b (raised_to at (object_in k kept.objects)) (object_in k kept.objects)) (nat_list_eq_equiv.symm key k ∙ or_none (bytes_eq k key)))
+      ∙ ap (λ b. cond b (raised_to at (object_in k kept.objects)) (object_in k kept.objects)) (nat_list_eq_equiv.symm key k ∙ or_none (bytes_eq k key)))
       (omega (arith, change.total, wide.total)) (λ d. subst (IsDistinct bytes_eq) (sym change.keys) (wide.distinct d))
     where
       or_none : (b : Bool) → b ≡ (b || false)

@@ -1,5 +1,5 @@
 -- The numbers of versions, of bases and of named values.
-use Rattle.std.proofs.Common.{◌≡◌, ℕ, zero, suc, ◌+◌, ◌<◌, ◌≤◌, ltb, leb, eqb, Bool, true, false, cond, not, ◌&&◌, ◌||◌, List, [], ◌∷◌, length, filter, sum_by, bytes_eq, Option, Some, None, is_some, option_map, unwrap_or, refl, sym, ap, ◌∙◌, subst, arith}
+use Rattle.std.proofs.Common.{◌≡◌, ℕ, suc, ◌+◌, ◌<◌, ◌≤◌, leb, eqb, Bool, true, false, cond, List, [], ◌∷◌, length, filter, sum_by, bytes_eq, Option, Some, None, is_some, unwrap_or, refl, sym, ap, ◌∙◌, subst, arith}
 use Rattle.std.specs.List.{IsDistinct}
 use Rattle.std.specs.Map.{lookup, keys_of, values_of}
 use Rattle.std.specs.Cmp.Lexicographic.{nat_list_eq_equiv}
@@ -7,12 +7,11 @@ use Rattle.std.proofs.lemmas.List.Sums.{sum_by-cons}
 use Rattle.std.proofs.lemmas.Bool.Decides.{nat_tests}
 use Rattle.boki_types.specs.declared.body.Body.{Body}
 use Rattle.boki_model.specs.Live.{Live}
-use Rattle.boki_model.specs.Writes.{Stored, Version, Store, Write, is_below, version_writes, write_at, versions_at}
-use Rattle.obj_store.specs.Ascending.{not_below}
-use Rattle.obj_store.specs.Kept.{Kept, KeptObject, blank, object_in, has_key, put_in, in_order, base_count, count_of, total}
+use Rattle.boki_model.specs.Writes.{Version, Store, Write, is_below, version_writes, write_at, versions_at}
+use Rattle.obj_store.specs.Kept.{Kept, KeptObject, blank, has_key, put_in, in_order, base_count, count_of, total}
 use Rattle.obj_store.specs.StandsFor.{StandsFor, standing, kept_of, base_of}
 use Rattle.obj_store.specs.Steps.{count_in}
-use Rattle.obj_store.proofs.Entries.{same_key, key_itself}
+use Rattle.obj_store.proofs.Entries.{key_itself}
 use Rattle.obj_store.proofs.Passing.{length_put_in}
 use Rattle.obj_store.proofs.Counting.{key_sum, key_sum_same, key_sum_zero, key_sum_plus, one_at, one_there, sum_by_keys}
 
@@ -161,13 +160,13 @@ module _ (kept : Kept) (m : Store) (records : List (Live Body)) (stands : Stands
   pub versions_at_is : (c : ℕ) → m.floor ≤ c → sum_by (count_in c) (values_of kept.objects) ≡ versions_at c m.versions
   versions_at_is c le =
       sum_by_keys (count_in c) (λ k. length (version_writes k (filter (λ v. eqb c v.cursor) m.versions))) kept.objects stands.sound.keys
-        (λ k has. ap (count_in c) (stands.objects k) ∙ count_in_order c (version_writes k (standing m.floor m.versions)) ∙ ap length (count_versions m.floor c k m.versions le))
+      (λ k has. ap (count_in c) (stands.objects k) ∙ count_in_order c (version_writes k (standing m.floor m.versions)) ∙ ap length (count_versions m.floor c k m.versions le))
       ∙ versions_sum kept.objects (filter (λ v. eqb c v.cursor) m.versions) stands.sound.keys (have_at m.floor kept.objects c m.versions le entries)
 
   pub total_is : total kept.objects ≡ key_sum (λ k. base_count (base_of k m records)) kept.objects + length (standing m.floor m.versions)
   total_is =
       sum_by_keys count_of (λ k. base_count (base_of k m records) + length (version_writes k (standing m.floor m.versions))) kept.objects stands.sound.keys
-        (λ k has. ap count_of (stands.objects k) ∙ ap (λ (n : ℕ). base_count (base_of k m records) + n) (length_in_order (version_writes k (standing m.floor m.versions))))
+      (λ k has. ap count_of (stands.objects k) ∙ ap (λ (n : ℕ). base_count (base_of k m records) + n) (length_in_order (version_writes k (standing m.floor m.versions))))
       ∙ key_sum_plus (λ k. base_count (base_of k m records)) (λ k. length (version_writes k (standing m.floor m.versions))) kept.objects
       ∙ ap (λ (n : ℕ). key_sum (λ k. base_count (base_of k m records)) kept.objects + n)
-        (versions_sum kept.objects (standing m.floor m.versions) stands.sound.keys (have_standing m.floor kept.objects m.versions entries))
+      (versions_sum kept.objects (standing m.floor m.versions) stands.sound.keys (have_standing m.floor kept.objects m.versions entries))

@@ -1,13 +1,12 @@
 -- Lists of writes in the order of their positions, and searches of them.
-use Rattle.std.proofs.Common.{◌≡◌, ℕ, zero, suc, ◌+◌, ◌-◌, ◌<◌, ◌≤◌, ltb, leb, eqb, Bool, true, false, cond, ◌&&◌, ◌||◌, List, [], ◌∷◌, length, get_or, slice_get, filter, Option, Some, None, refl, sym, ap, ◌∙◌, subst, arith, insert, remove}
-use Rattle.std.specs.List.{prefix_len}
+use Rattle.std.proofs.Common.{◌≡◌, ℕ, zero, suc, ◌+◌, ◌-◌, ◌<◌, ◌≤◌, leb, eqb, Bool, true, false, cond, ◌&&◌, ◌||◌, List, [], ◌∷◌, length, get_or, slice_get, filter, Option, Some, None, refl, sym, ap, ◌∙◌, arith, insert, remove}
 use Rattle.std.specs.List.Sorted.{IsPartitionPoint, IsPartitionedBy}
 use Rattle.std.proofs.lemmas.List.Sums.{prefix_len_is}
 use Rattle.std.proofs.lemmas.Bool.Decides.{nat_tests}
 use Rattle.boki_model.specs.Writes.{Write, is_below, later, last_below}
 use Rattle.obj_store.specs.Ascending.{AllAbove, Ascend, before_count, has_at, not_below}
-use Rattle.obj_store.specs.Kept.{put_in, in_order}
-use Rattle.obj_store.proofs.Positions.{below_trans, below_up, not_both}
+use Rattle.obj_store.specs.Kept.{put_in}
+use Rattle.obj_store.proofs.Positions.{below_trans}
 
 all_above_at : (w : Write) (ws : List Write) → AllAbove w ws → (i : ℕ) (d : Write) → i < length ws → is_below w.first w.second (get_or ws i d).first (get_or ws i d).second ≡ true
 all_above_at w [] h i d lt = absurd (let h : ⊥ = omega arith in h)
@@ -22,7 +21,6 @@ parted c k (w ∷ ws) up zero (suc j) d le lt h =
     below_trans w.first w.second (get_or ws j d).first (get_or ws j d).second c k (all_above_at w ws up.0 j d (omega arith)) h
 parted c k (w ∷ ws) up (suc i) zero d le lt h = absurd (let h : ⊥ = omega arith in h)
 parted c k (w ∷ ws) up (suc i) (suc j) d le lt h = parted c k ws up.1 i j d (omega arith) (omega arith) h
-
 
 pub point_is : (c k : ℕ) (ws : List Write) (n : ℕ) → n ≤ length ws
     → IsPartitionPoint (λ w. is_below w.first w.second c k ≡ true) (λ w. is_below w.first w.second c k ≡ false) ws n → n ≡ before_count c k ws
@@ -96,9 +94,11 @@ last_is c k (w ∷ ws) up = at (is_below w.first w.second c k) refl (last_is c k
     some : (n : ℕ) → n ≡ before_count c k ws → last_below c k ws ≡ before n ws → later w (last_below c k ws) ≡ before (suc n) (w ∷ ws)
     some zero e ih = ap (later w) ih
     some (suc n) e ih = ap (later w) ih ∙ last_above w ws up.0 (suc n) (omega arith) (omega (arith, count_bound c k ws))
+
     none : (n : ℕ) → before_count c k ws ≡ n → n ≡ 0 → last_below c k ws ≡ before n ws → last_below c k ws ≡ None
     none zero e z ih = ih
     none (suc n) e z ih = absurd (let h : ⊥ = omega arith in h)
+
     at : (b : Bool) → is_below w.first w.second c k ≡ b → last_below c k ws ≡ before (before_count c k ws) ws
         → cond b (later w (last_below c k ws)) (last_below c k ws) ≡ before (cond b (1 + before_count c k ws) 0) (w ∷ ws)
     at true e ih = some (before_count c k ws) refl ih ∙ ap (λ n. before n (w ∷ ws)) (let n : suc (before_count c k ws) ≡ 1 + before_count c k ws = omega arith in n)

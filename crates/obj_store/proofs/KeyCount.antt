@@ -1,5 +1,5 @@
 -- The number of bases that are kept.
-use Rattle.std.proofs.Common.{◌≡◌, ℕ, zero, suc, ◌+◌, ◌<◌, ltb, Bool, true, false, T, cond, ◌&&◌, ◌||◌, List, [], ◌∷◌, length, bytes_eq, is_eq, Option, Some, None, is_some, option_map, refl, sym, ap, ◌∙◌, subst, arith}
+use Rattle.std.proofs.Common.{◌≡◌, ℕ, ◌+◌, ◌<◌, ltb, Bool, true, false, T, cond, ◌||◌, List, [], ◌∷◌, length, bytes_eq, Option, Some, None, is_some, option_map, refl, sym, ap, ◌∙◌, arith}
 use Rattle.std.specs.List.{IsDistinct}
 use Rattle.std.specs.Map.{keys_of}
 use Rattle.std.specs.FinMap.Entries.{find-put, is_sorted-put, length-put}
@@ -14,8 +14,8 @@ use Rattle.boki_types.specs.declared.store.Name.{Name}
 use Rattle.boki_model.specs.Live.{Live}
 use Rattle.boki_model.specs.Maps.{key_order, get, put}
 use Rattle.boki_model.specs.Writes.{Stored, Version, Store, Write, is_below, later, last_below, logged_write, logged_writes, version_writes, write_at, with, if_key, here_or_named, initial_keys, logged_key, logged_keys_below, version_keys_below, keys_below, held}
-use Rattle.obj_store.specs.Kept.{Kept, KeptObject, blank, object_in, has_key, last_of, base_count, total}
-use Rattle.obj_store.specs.StandsFor.{StandsFor, base_of, kept_of, initial_write, HasValue, HaveValues}
+use Rattle.obj_store.specs.Kept.{Kept, KeptObject, has_key, last_of, base_count}
+use Rattle.obj_store.specs.StandsFor.{StandsFor, base_of, initial_write, HasValue, HaveValues}
 use Rattle.obj_store.proofs.Entries.{same_key}
 use Rattle.obj_store.proofs.Counting.{key_sum, key_sum_same, key_sum_zero, key_sum_plus, one_at, one_there}
 use Rattle.obj_store.proofs.LoggedWrites.{skipped}
@@ -44,20 +44,27 @@ module _ (es : List (List ℕ × KeptObject)) (distinct : IsDistinct bytes_eq (k
   counts_none = (tt, λ h. sym (key_sum_zero es))
 
   pub counts_put : (key : List ℕ) (v : Value) (ks : Keys) → Counts ks → Counts (put key v ks)
-  counts_put key v ks h = (is_sorted-put key_order nat_list_cmp_total key v ks h.0, λ all. by (present key ks) refl (h.1 (λ k is. all k (present_put k key v ks ∙ or_true (bytes_eq k key) is)))
-      (all key (present_put key key v ks ∙ ap (λ b. b || present key ks) (nat_list_eq_equiv.refl key))))
+  counts_put key v ks h = (
+    is_sorted-put key_order nat_list_cmp_total key v ks h.0,
+    λ all. by (present key ks) refl (h.1 (λ k is. all k (present_put k key v ks ∙ or_true (bytes_eq k key) is)))
+        (all key (present_put key key v ks ∙ ap (λ b. b || present key ks) (nat_list_eq_equiv.refl key))),
+  )
     where
       or_true : (b : Bool) {c : Bool} → c ≡ true → (b || c) ≡ true
       or_true true e = refl
       or_true false e = e
+
       len : length (put key v ks) ≡ cond (present key ks) (length ks) (length ks + 1)
       len = length-put key_order nat_list_cmp_total key v ks h.0
+
       there : present key ks ≡ true → (k : List ℕ) (b : Bool) → bytes_eq k key ≡ b → (b || present k ks) ≡ present k ks
       there is k true e = sym (ap (λ (q : List ℕ). present q ks) (same_key k key e) ∙ is)
       there is k false e = refl
+
       added : present key ks ≡ false → (k : List ℕ) (b : Bool) → bytes_eq k key ≡ b → cond (b || present k ks) 1 0 ≡ cond b 1 0 + cond (present k ks) 1 0
       added is k true e = sym (ap (λ c. 1 + cond c 1 0) (ap (λ (q : List ℕ). present q ks) (same_key k key e) ∙ is))
       added is k false e = (let z : cond (present k ks) 1 0 ≡ 0 + cond (present k ks) 1 0 = omega arith in z)
+
       by : (b : Bool) → present key ks ≡ b → length ks ≡ key_sum (λ k. cond (present k ks) 1 0) es → has_key key es ≡ true → length (put key v ks) ≡ key_sum (λ k. cond (present k (put key v ks)) 1 0) es
       by true is ih has =
           len ∙ ap (λ b. cond b (length ks) (length ks + 1)) is ∙ ih
@@ -65,9 +72,9 @@ module _ (es : List (List ℕ × KeptObject)) (distinct : IsDistinct bytes_eq (k
       by false is ih has =
           len ∙ ap (λ b. cond b (length ks) (length ks + 1)) is
           ∙ (let one = one_there key es distinct has in let plus = key_sum_plus (one_at key) (λ k. cond (present k ks) 1 0) es in
-             let z : length ks + 1 ≡ key_sum (λ k. one_at key k + cond (present k ks) 1 0) es = omega arith in z)
+          let z : length ks + 1 ≡ key_sum (λ k. one_at key k + cond (present k ks) 1 0) es = omega arith in z)
           ∙ key_sum_same (λ k. one_at key k + cond (present k ks) 1 0) (λ k. cond (present k (put key v ks)) 1 0) es
-            (λ k. sym (ap (λ b. cond b 1 0) (present_put k key v ks) ∙ added is k (bytes_eq k key) refl ∙ ap (λ b. cond b 1 0 + cond (present k ks) 1 0) (nat_list_eq_equiv.symm k key)))
+          (λ k. sym (ap (λ b. cond b 1 0) (present_put k key v ks) ∙ added is k (bytes_eq k key) refl ∙ ap (λ b. cond b 1 0 + cond (present k ks) 1 0) (nat_list_eq_equiv.symm k key)))
 
   pub counts_initial : (objects : Keys) → Counts (initial_keys objects)
   counts_initial [] = counts_none
@@ -139,6 +146,7 @@ logged_present k n named ks (x ∷ xs) h = by (ltb x.seq n) refl (logged_write x
       where
         lt : x.seq < n
         lt = grind (arith, nat_tests)
+
         at : (b : Bool) (o : Option Value) → here_or_named w.1.1 w.1.0 named ≡ o
             → (b || present k (logged_keys_below n xs ks)) ≡ (is_some (last_below n 0 (with (cond b (option_map (write_at x.seq 0) o) None) (logged_writes k named xs))) || present k ks)
         at false o is = ih
@@ -169,10 +177,10 @@ module _ (kept : Kept) (m : Store) (records : List (Live Body)) (stands : Stands
   base_present k =
       version_present k m.floor (logged_keys_below m.floor records (initial_keys m.initial)) m.versions
       ∙ ap (λ b. is_some (last_below m.floor 0 (version_writes k m.versions)) || b) (logged_present k m.floor m.named (initial_keys m.initial) records stands.valued
-        ∙ ap (λ b. is_some (last_below m.floor 0 (logged_writes k m.named records)) || b) (initial_present k m.initial ∙ sym (initial_some k m.initial)))
+      ∙ ap (λ b. is_some (last_below m.floor 0 (logged_writes k m.named records)) || b) (initial_present k m.initial ∙ sym (initial_some k m.initial)))
       ∙ swap (is_some (last_below m.floor 0 (version_writes k m.versions))) (is_some (last_below m.floor 0 (logged_writes k m.named records))) (is_some (initial_write k m.initial))
       ∙ sym (some_last (last_below m.floor 0 (logged_writes k m.named records)) (last_of (last_below m.floor 0 (version_writes k m.versions)) (initial_write k m.initial))
-        ∙ ap (λ b. is_some (last_below m.floor 0 (logged_writes k m.named records)) || b) (some_last (last_below m.floor 0 (version_writes k m.versions)) (initial_write k m.initial)))
+      ∙ ap (λ b. is_some (last_below m.floor 0 (logged_writes k m.named records)) || b) (some_last (last_below m.floor 0 (version_writes k m.versions)) (initial_write k m.initial)))
     where
       swap : (a b c : Bool) → (a || (b || c)) ≡ (b || (a || c))
       swap true true c = refl
@@ -189,7 +197,7 @@ module _ (kept : Kept) (m : Store) (records : List (Live Body)) (stands : Stands
   held_is =
       let keys = (counts_all kept.objects stands.sound.keys m.floor m records).1 base_entry in
       let bases = key_sum_same (λ k. cond (present k (keys_below m.floor m records)) 1 0) (λ k. base_count (base_of k m records)) kept.objects
-            (λ k. ap (λ b. cond b 1 0) (base_present k) ∙ by (base_of k m records)) in
+      (λ k. ap (λ b. cond b 1 0) (base_present k) ∙ by (base_of k m records)) in
       omega (arith, keys, bases, total_is kept m records stands, names_count kept m records stands, stands.sound.count)
     where
       by : (o : Option Write) → cond (is_some o) 1 0 ≡ base_count o

@@ -1,12 +1,11 @@
 -- The keys that are kept, in order.
-use Rattle.std.proofs.Common.{◌≡◌, ℕ, zero, suc, ◌+◌, ◌<◌, ◌≤◌, ltb, leb, eqb, Bool, true, false, T, cond, not, ◌&&◌, ◌||◌, List, [], ◌∷◌, length, map, take, slice_get, bytes_eq, is_eq, Option, Some, None, is_some, unwrap_or, refl, sym, ap, ◌∙◌, subst, arith}
+use Rattle.std.proofs.Common.{◌≡◌, ℕ, zero, suc, ◌+◌, leb, eqb, Bool, true, false, T, cond, not, ◌&&◌, ◌||◌, List, [], ◌∷◌, length, take, slice_get, bytes_eq, is_eq, Option, Some, None, is_some, unwrap_or, refl, sym, ap, ◌∙◌, subst, arith}
 use Rattle.std.specs.List.{IsDistinct}
 use Rattle.std.specs.Map.{lookup, keys_of}
 use Rattle.std.specs.BTreeMap.{insert_entry}
 use Rattle.std.specs.Ordering.{match_ordering, is_lt}
 use Rattle.std.specs.declared.cmp.Ordering.{Ordering}
 use Rattle.std.specs.declared.cmp.Ordering.TheVariants.{Less, Equal, Greater}
-use Rattle.std.specs.FinMap as fin
 use Rattle.std.specs.FinMap.{slice_cmp-IsAntisymmetric, nat_cmp-IsAntisymmetric}
 use Rattle.std.specs.FinMap.Entries.{by_order, put, find, below_all, is_sorted, find-put, is_sorted-put, same_entries}
 use Rattle.std.specs.Cmp.Lexicographic.{nat_list_cmp_total, nat_list_eq_equiv}
@@ -21,7 +20,7 @@ use Rattle.boki_types.specs.declared.body.Body.{Body}
 use Rattle.boki_model.specs.Live.{Live}
 use Rattle.boki_model.specs.Maps.{key_order, get}
 use Rattle.boki_model.specs.Writes.{Version, Store, Write, is_below, later, last_below, logged_writes, version_writes, write_at, initial_keys, logged_keys_below}
-use Rattle.obj_store.specs.Kept.{Kept, KeptObject, blank, object_in, last_of, in_order, count_of, base_count}
+use Rattle.obj_store.specs.Kept.{Kept, KeptObject, blank, object_in, last_of, count_of, base_count}
 use Rattle.obj_store.specs.Keys.{version_keys, keys_in, with_key, with_keys}
 use Rattle.obj_store.specs.StandsFor.{StandsFor, standing, kept_of, base_of, initial_write}
 use Rattle.obj_store.proofs.Held.{length_in_order}
@@ -148,13 +147,13 @@ any_splits f q (v ∷ vs) = by (leb f v.cursor) (bytes_eq q v.key) refl refl (an
         one_is_kept (length (version_writes q vs))
         ∙ or_true (is_some (last_below f 0 (write_at v.cursor v.k v.value ∷ version_writes q vs)))
         ∙ ap (λ b. is_some (last_below f 0 (write_at v.cursor v.k v.value ∷ version_writes q vs)) || b) (sym (
-            ap (λ x. not (eqb (length (cond x (write_at v.cursor v.k v.value ∷ version_writes q (standing f vs)) (version_writes q (standing f vs)))) 0)) h
-            ∙ one_is_kept (length (version_writes q (standing f vs)))))
+        ap (λ x. not (eqb (length (cond x (write_at v.cursor v.k v.value ∷ version_writes q (standing f vs)) (version_writes q (standing f vs)))) 0)) h
+        ∙ one_is_kept (length (version_writes q (standing f vs)))))
     by false true e h ih =
         one_is_kept (length (version_writes q vs))
         ∙ ap (λ b. b || not (eqb (length (version_writes q (standing f vs))) 0)) (sym (
-            ap (λ x. is_some (cond x (later (write_at v.cursor v.k v.value) (last_below f 0 (version_writes q vs))) (last_below f 0 (version_writes q vs)))) (let t : is_below v.cursor v.k f 0 ≡ true = grind (arith, nat_tests) in t)
-            ∙ some_later (write_at v.cursor v.k v.value) (last_below f 0 (version_writes q vs))))
+        ap (λ x. is_some (cond x (later (write_at v.cursor v.k v.value) (last_below f 0 (version_writes q vs))) (last_below f 0 (version_writes q vs)))) (let t : is_below v.cursor v.k f 0 ≡ true = grind (arith, nat_tests) in t)
+        ∙ some_later (write_at v.cursor v.k v.value) (last_below f 0 (version_writes q vs))))
 
 kept_any : (o : KeptObject) → not (eqb (count_of o) 0) ≡ (is_some o.base || not (eqb (length o.versions) 0))
 kept_any o = by o.base (length o.versions)
@@ -173,13 +172,13 @@ module _ (kept : Kept) (m : Store) (records : List (Live Body)) (stands : Stands
       ap (λ (o : KeptObject). not (eqb (count_of o) 0)) (stands.objects q) ∙ kept_any (kept_of q m records)
       ∙ ap (λ (n : ℕ). is_some (base_of q m records) || not (eqb n 0)) (length_in_order (version_writes q (standing m.floor m.versions)))
       ∙ ap (λ b. b || not (eqb (length (version_writes q (standing m.floor m.versions))) 0)) (some_last (last_below m.floor 0 (logged_writes q m.named records)) (last_of (last_below m.floor 0 (version_writes q m.versions)) (initial_write q m.initial))
-        ∙ ap (λ b. is_some (last_below m.floor 0 (logged_writes q m.named records)) || b) (some_last (last_below m.floor 0 (version_writes q m.versions)) (initial_write q m.initial)))
+      ∙ ap (λ b. is_some (last_below m.floor 0 (logged_writes q m.named records)) || b) (some_last (last_below m.floor 0 (version_writes q m.versions)) (initial_write q m.initial)))
       ∙ swap (is_some (last_below m.floor 0 (logged_writes q m.named records))) (is_some (last_below m.floor 0 (version_writes q m.versions))) (is_some (initial_write q m.initial)) (not (eqb (length (version_writes q (standing m.floor m.versions))) 0))
       ∙ sym (known_present q m.versions (logged_keys_below m.floor records (initial_keys m.initial))
-        ∙ ap (λ b. b || present q (logged_keys_below m.floor records (initial_keys m.initial))) (any_splits m.floor q m.versions)
-        ∙ ap (λ b. (is_some (last_below m.floor 0 (version_writes q m.versions)) || not (eqb (length (version_writes q (standing m.floor m.versions))) 0)) || b)
-          (logged_present q m.floor m.named (initial_keys m.initial) records stands.valued
-          ∙ ap (λ b. is_some (last_below m.floor 0 (logged_writes q m.named records)) || b) (initial_present q m.initial ∙ sym (initial_some q m.initial))))
+      ∙ ap (λ b. b || present q (logged_keys_below m.floor records (initial_keys m.initial))) (any_splits m.floor q m.versions)
+      ∙ ap (λ b. (is_some (last_below m.floor 0 (version_writes q m.versions)) || not (eqb (length (version_writes q (standing m.floor m.versions))) 0)) || b)
+      (logged_present q m.floor m.named (initial_keys m.initial) records stands.valued
+      ∙ ap (λ b. is_some (last_below m.floor 0 (logged_writes q m.named records)) || b) (initial_present q m.initial ∙ sym (initial_some q m.initial))))
     where
       swap : (l v i s : Bool) → ((l || (v || i)) || s) ≡ ((v || s) || (l || i))
       swap true true i s = refl
@@ -194,9 +193,9 @@ module _ (kept : Kept) (m : Store) (records : List (Live Body)) (stands : Stands
   pub keys_are : keys_of (with_keys kept.objects []) ≡ keys_in m records
   keys_are =
       ap keys_of (same_entries key_order nat_list_cmp_total (slice_cmp-IsAntisymmetric nat_cmp-IsAntisymmetric) (with_keys kept.objects [])
-        (units (version_keys m.versions (logged_keys_below m.floor records (initial_keys m.initial))))
-        (sorted_all kept.objects [] tt)
-        (subst T (sym (sorted_units (version_keys m.versions (logged_keys_below m.floor records (initial_keys m.initial))))) (known_sorted m.versions))
-        (λ q. found_all q kept.objects [] stands.sound.keys ∙ ap (λ b. cond b (Some tt) None) (kept_is_known q)
-          ∙ sym (found_units q (version_keys m.versions (logged_keys_below m.floor records (initial_keys m.initial))))))
+      (units (version_keys m.versions (logged_keys_below m.floor records (initial_keys m.initial))))
+      (sorted_all kept.objects [] tt)
+      (subst T (sym (sorted_units (version_keys m.versions (logged_keys_below m.floor records (initial_keys m.initial))))) (known_sorted m.versions))
+      (λ q. found_all q kept.objects [] stands.sound.keys ∙ ap (λ b. cond b (Some tt) None) (kept_is_known q)
+      ∙ sym (found_units q (version_keys m.versions (logged_keys_below m.floor records (initial_keys m.initial))))))
       ∙ keys_units (version_keys m.versions (logged_keys_below m.floor records (initial_keys m.initial)))

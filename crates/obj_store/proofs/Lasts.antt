@@ -1,11 +1,10 @@
 -- The last of several writes.
-use Rattle.std.proofs.Common.{◌≡◌, ℕ, zero, suc, ◌+◌, ◌<◌, ◌≤◌, ltb, leb, eqb, Bool, true, false, cond, ◌&&◌, ◌||◌, List, [], ◌∷◌, ◌++◌, filter, Option, Some, None, option_map, refl, sym, ap, ◌∙◌, subst, arith}
+use Rattle.std.proofs.Common.{◌≡◌, ℕ, ◌<◌, ◌≤◌, leb, Bool, true, false, cond, List, [], ◌∷◌, ◌++◌, Option, Some, None, refl, sym, ap, ◌∙◌, arith}
 use Rattle.std.proofs.lemmas.Bool.Decides.{nat_tests}
-use Rattle.boki_model.specs.Reads.{or_else}
 use Rattle.boki_model.specs.Writes.{Write, is_below, later, last_below}
 use Rattle.obj_store.specs.Ascending.{not_below}
 use Rattle.obj_store.specs.Kept.{last_of, put_in, in_order}
-use Rattle.obj_store.proofs.Positions.{below_trans, above_trans, not_both, one_tie, below_by_first, below_zero}
+use Rattle.obj_store.proofs.Positions.{below_trans, above_trans, not_both, one_tie}
 
 pub last_none : (a : Option Write) → last_of a None ≡ a
 last_none None = refl
@@ -134,7 +133,7 @@ last_split f c k (x ∷ xs) le = at (leb f x.first) (is_below x.first x.second c
     at false true true h g e ih =
         ap (later x) ih
         ∙ sym (last_past (last_below c k (not_below f xs)) (Some x) (last_below f 0 xs)
-          (apart_from f (last_below c k (not_below f xs)) (Some x) (each_has (λ w. f ≤ w.first) c k (not_below f xs) (each_from f xs)) (let lt : x.first < f = grind (arith, nat_tests) in lt)))
+        (apart_from f (last_below c k (not_below f xs)) (Some x) (each_has (λ w. f ≤ w.first) c k (not_below f xs) (each_from f xs)) (let lt : x.first < f = grind (arith, nat_tests) in lt)))
 
 -- writes put in order
 
@@ -149,6 +148,7 @@ last_put_in c k w (v ∷ vs) = at (is_below v.first v.second w.first w.second) r
     both true false e = refl
     both false true e = refl
     both false false e = refl
+
     at : (b : Bool) → is_below v.first v.second w.first w.second ≡ b → last_below c k (put_in w vs) ≡ last_below c k (w ∷ vs)
         → last_below c k (cond b (v ∷ put_in w vs) (w ∷ v ∷ vs)) ≡ last_below c k (w ∷ v ∷ vs)
     at true e ih =

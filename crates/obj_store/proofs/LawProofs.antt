@@ -1,15 +1,13 @@
 -- Proofs of what the layers above rely on.
-use Rattle.std.proofs.Common.{◌≡◌, ℕ, zero, suc, ◌<◌, ◌≤◌, ltb, leb, Bool, true, false, cond, ◌&&◌, ◌||◌, List, [], ◌∷◌, filter, bytes_eq, Option, Some, None, refl, sym, ap, ◌∙◌, subst, arith}
+use Rattle.std.proofs.Common.{◌≡◌, ℕ, ◌<◌, ◌≤◌, ltb, leb, Bool, true, false, cond, ◌&&◌, ◌||◌, List, [], ◌∷◌, bytes_eq, Option, Some, None, refl, sym, ap, ◌∙◌, subst, arith}
 use Rattle.std.proofs.lemmas.Bool.Decides.{nat_tests}
-use Rattle.lb_base.specs.declared.value.Value.{Value}
 use Rattle.boki_types.specs.declared.body.Body.{Body}
 use Rattle.boki_types.specs.declared.store.Name.{Name}
 use Rattle.boki_model.specs.Live.{Live}
-use Rattle.boki_model.specs.LogLaws.{FallBelow}
-use Rattle.boki_model.specs.Writes.{Stored, Version, Store, Write, is_below, later, last_below, logged_write, logged_writes, version_writes, write_at, with, if_key, names_write, value_of, is_settled}
-use Rattle.obj_store.specs.Kept.{Kept, KeptObject, object_in, put_in, in_order, last_of, value_in}
+use Rattle.boki_model.specs.Writes.{Stored, Version, Write, is_below, later, last_below, logged_write, logged_writes, version_writes, write_at, with, if_key, names_write, value_of, is_settled}
+use Rattle.obj_store.specs.Kept.{KeptObject, put_in, in_order, last_of}
 use Rattle.obj_store.specs.Laws.{AllFrom, OneBelow, NoneSettled, RecordsBelow, below}
-use Rattle.obj_store.specs.StandsFor.{StandsFor, standing, kept_of, initial_write, HasValue, HaveValues}
+use Rattle.obj_store.specs.StandsFor.{standing, initial_write, HasValue, HaveValues}
 use Rattle.obj_store.proofs.LoggedWrites.{skipped}
 use Rattle.obj_store.proofs.Puts.{object_is}
 

@@ -1,5 +1,5 @@
 -- The logged writes of a key, and the last of them below a seqnum.
-use Rattle.std.proofs.Common.{◌≡◌, ℕ, zero, suc, ◌+◌, ◌<◌, ◌≤◌, ltb, leb, eqb, Bool, true, false, cond, ◌&&◌, ◌||◌, List, [], ◌∷◌, ◌++◌, bytes_eq, Option, Some, None, is_some, option_map, refl, sym, ap, ◌∙◌, subst, arith}
+use Rattle.std.proofs.Common.{◌≡◌, ℕ, ◌<◌, ◌≤◌, ltb, Bool, true, false, cond, List, [], ◌∷◌, bytes_eq, Option, Some, None, option_map, refl, sym, ap, ◌∙◌, arith}
 use Rattle.std.proofs.lemmas.Bool.Decides.{nat_tests}
 use Rattle.lb_base.specs.declared.value.Value.{Value}
 use Rattle.boki_types.specs.declared.body.Body.{Body}
@@ -96,13 +96,17 @@ module _ (key : List ℕ) (named : List Stored) where
           at : (b : Bool) → bytes_eq key w.0 ≡ b → (o : Option Value) → here_or_named w.1.1 w.1.0 named ≡ o
               → Tells c (with (cond b (option_map (write_at x.seq 0) o) None) (logged_writes key named xs)) (or_else (cond b (Some (x.seq, w.1)) None) (last_logged key c xs))
           at false g o is = ih
-          at true g (Some u) is = (fall.0,
-              (λ v eq.
-                  ap (λ b. cond b (later (write_at x.seq 0 u) (last_below c 0 (logged_writes key named xs))) (last_below c 0 (logged_writes key named xs))) (let t : is_below x.seq 0 c 0 ≡ true = grind (arith, nat_tests) in t)
-                  ∙ stays_last x.seq u (last_below c 0 (logged_writes key named xs)) (each_has (IsLogged x.seq) c 0 (logged_writes key named xs) each)
-                  ∙ ap (λ (y : Value). Some (write_at x.seq 0 y)) (let s : u ≡ v = cc in s)),
-              (λ f le low. all_low c f (write_at x.seq 0 u ∷ logged_writes key named xs) le
-                  ((fall.0, low, refl), weaker x.seq f (let t : x.seq ≤ f = omega arith in t) (logged_writes key named xs) each)))
-          at true g None is = (fall.0,
-              (λ v eq. absurd (let z : ⊥ = cc in z)),
-              (λ f le low. all_low c f (logged_writes key named xs) le (weaker x.seq f (let t : x.seq ≤ f = omega arith in t) (logged_writes key named xs) each)))
+          at true g (Some u) is = (
+            fall.0,
+            (λ v eq.
+                ap (λ b. cond b (later (write_at x.seq 0 u) (last_below c 0 (logged_writes key named xs))) (last_below c 0 (logged_writes key named xs))) (let t : is_below x.seq 0 c 0 ≡ true = grind (arith, nat_tests) in t)
+                ∙ stays_last x.seq u (last_below c 0 (logged_writes key named xs)) (each_has (IsLogged x.seq) c 0 (logged_writes key named xs) each)
+                ∙ ap (λ (y : Value). Some (write_at x.seq 0 y)) (let s : u ≡ v = cc in s)),
+            (λ f le low. all_low c f (write_at x.seq 0 u ∷ logged_writes key named xs) le
+                ((fall.0, low, refl), weaker x.seq f (let t : x.seq ≤ f = omega arith in t) (logged_writes key named xs) each)),
+          )
+          at true g None is = (
+            fall.0,
+            (λ v eq. absurd (let z : ⊥ = cc in z)),
+            (λ f le low. all_low c f (logged_writes key named xs) le (weaker x.seq f (let t : x.seq ≤ f = omega arith in t) (logged_writes key named xs) each)),
+          )

@@ -1,22 +1,20 @@
 -- The number of named values that are kept.
-use Rattle.std.proofs.Common.{◌≡◌, ℕ, zero, suc, ◌+◌, eqb, Bool, true, false, cond, not, ◌&&◌, List, [], ◌∷◌, length, map, filter, bytes_eq, Option, Some, None, refl, sym, ap, ◌∙◌, subst, arith}
+use Rattle.std.proofs.Common.{◌≡◌, ℕ, suc, eqb, Bool, true, false, cond, not, ◌&&◌, List, [], ◌∷◌, length, bytes_eq, Option, Some, None, refl, sym, ap, ◌∙◌, arith}
 use Rattle.std.specs.List.{IsDistinct, AllByRecursion}
 use Rattle.std.specs.Map.{lookup, keys_of}
 use Rattle.std.specs.Cmp.{IsEquivalence, nat_eq_equiv}
 use Rattle.std.specs.Cmp.Lexicographic.{nat_list_eq_equiv}
-use Rattle.std.specs.HashMap.{HashMap}
 use Rattle.indexmap.specs.Layout.{hash_map}
 use Rattle.std.proofs.lemmas.Map.{NonePasses, none_passes_from_lookup}
 use Rattle.std.proofs.lemmas.Map.Keys.{IsDistinct-cons, IsDistinct-from_apart}
 use Rattle.std.proofs.lemmas.Map.Lookups.{hash_map_len_from_get}
-use Rattle.std.proofs.lemmas.Bool.Decides.{nat_tests}
 use Rattle.lb_base.specs.declared.value.Value.{Value}
 use Rattle.boki_types.specs.declared.body.Body.{Body}
 use Rattle.boki_types.specs.declared.store.Name.{Name}
 use Rattle.boki_model.specs.Live.{Live}
 use Rattle.boki_model.specs.Writes.{Stored, Store, value_of, same_name, is_settled, unsettled}
-use Rattle.obj_store.specs.Kept.{Kept, is_name, value_in}
-use Rattle.obj_store.specs.StandsFor.{StandsFor, NamesDiffer, kept_under}
+use Rattle.obj_store.specs.Kept.{Kept, is_name}
+use Rattle.obj_store.specs.StandsFor.{StandsFor, NamesDiffer}
 use Rattle.obj_store.proofs.Fences.{same_name_is}
 
 abbrev pub entries_of : List Stored → List ((List ℕ × ℕ) × Value)
@@ -71,15 +69,16 @@ differ f records (s ∷ ss) h = by (is_settled s.name f records) (differ f recor
     passes : (es : List ((List ℕ × ℕ) × Value)) → NonePasses (is_name (s.name.path, s.name.place)) es → AllByRecursion (λ y. is_name (s.name.path, s.name.place) y ≡ false) (keys_of es)
     passes [] h = tt
     passes (e ∷ es) h = (h.0, passes es h.1)
+
     by : (p : Bool) → IsDistinct is_name (keys_of (entries_of (unsettled f records ss))) → IsDistinct is_name (keys_of (entries_of (cond (not p) (s ∷ unsettled f records ss) (unsettled f records ss))))
     by true ih = ih
     by false ih = IsDistinct-cons is_name (s.name.path, s.name.place) (keys_of (entries_of (unsettled f records ss)))
         (passes (entries_of (unsettled f records ss)) (none_passes_from_lookup (is_name (s.name.path, s.name.place)) (entries_of (unsettled f records ss))
-          (find_entries (s.name.path, s.name.place) (unsettled f records ss) ∙ unsettled_value s.name f records ss ∙ none_of_none (is_settled s.name f records) (value_of s.name ss) h.0))) ih
+        (find_entries (s.name.path, s.name.place) (unsettled f records ss) ∙ unsettled_value s.name f records ss ∙ none_of_none (is_settled s.name f records) (value_of s.name ss) h.0))) ih
 
 module _ (kept : Kept) (m : Store) (records : List (Live Body)) (stands : StandsFor kept m records) where
   pub names_count : length kept.named ≡ length (unsettled m.floor records m.named)
   names_count =
       hash_map_len_from_get name_laws {S = ℕ} {T = ℕ} (hash_map kept.named 0 0) (hash_map (entries_of (unsettled m.floor records m.named)) 0 0) stands.sound.names (differ m.floor records m.named stands.differ)
-        (λ q. stands.named (record { path = q.0; place = q.1 }) ∙ sym (find_entries q (unsettled m.floor records m.named) ∙ unsettled_value (record { path = q.0; place = q.1 }) m.floor records m.named))
+      (λ q. stands.named (record { path = q.0; place = q.1 }) ∙ sym (find_entries q (unsettled m.floor records m.named) ∙ unsettled_value (record { path = q.0; place = q.1 }) m.floor records m.named))
       ∙ length_entries (unsettled m.floor records m.named)

@@ -1,8 +1,6 @@
 -- A new object store stands for the opening store.
-use Rattle.std.proofs.Common.{◌≡◌, ℕ, zero, suc, ◌+◌, ltb, leb, Bool, true, false, cond, ◌&&◌, ◌||◌, List, [], ◌∷◌, length, bytes_eq, Option, Some, None, option_map, unwrap_or, refl, sym, ap, ◌∙◌, arith}
-use Rattle.std.specs.List.{IsDistinct}
-use Rattle.std.specs.Map.{lookup, keys_of}
-use Rattle.std.specs.FinMap as map
+use Rattle.std.proofs.Common.{◌≡◌, ℕ, ltb, true, false, cond, ◌&&◌, ◌||◌, List, [], ◌∷◌, length, bytes_eq, Option, Some, None, option_map, unwrap_or, refl, sym, ap, ◌∙◌, arith}
+use Rattle.std.specs.Map.{lookup}
 use Rattle.std.proofs.lemmas.Map.Keys.{IsDistinct-from_apart}
 use Rattle.std.proofs.lemmas.Map.Text.{is_eq-slice_cmp}
 use Rattle.std.proofs.lemmas.Bool.Decides.{nat_tests}
@@ -10,10 +8,10 @@ use Rattle.lb_base.specs.declared.value.Value.{Value}
 use Rattle.boki_types.specs.declared.body.Body.{Body}
 use Rattle.boki_types.specs.declared.store.Name.{Name}
 use Rattle.boki_model.specs.Live.{Live}
-use Rattle.boki_model.specs.Maps.{get, key_order}
+use Rattle.boki_model.specs.Maps.{get}
 use Rattle.boki_model.specs.LogLaws.{FallBelow}
-use Rattle.boki_model.specs.Writes.{Stored, Store, Write, is_below, later, last_below, logged_writes, write_at, with, is_settled, logged_write, names_write, opening_store}
-use Rattle.obj_store.specs.Kept.{Kept, KeptObject, blank, object_in, last_of, is_name, value_in, total}
+use Rattle.boki_model.specs.Writes.{Stored, Write, is_below, later, last_below, logged_writes, write_at, with, is_settled, logged_write, names_write, opening_store}
+use Rattle.obj_store.specs.Kept.{KeptObject, blank, last_of, is_name}
 use Rattle.obj_store.specs.StandsFor.{StandsFor, kept_of, initial_write, HaveValues}
 use Rattle.obj_store.specs.Steps.{Opens, opened}
 use Rattle.obj_store.proofs.Puts.{object_is}

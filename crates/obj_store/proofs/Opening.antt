@@ -1,5 +1,5 @@
 -- The objects of a store with initial objects.
-use Rattle.std.proofs.Common.{◌≡◌, ℕ, zero, suc, ◌+◌, ◌<◌, ◌≤◌, Bool, true, false, cond, if◌then◌else◌, List, [], ◌∷◌, length, take, get_or, bytes_eq, Option, Some, None, option_map, unwrap_or, refl, sym, ap, ◌∙◌, subst, arith}
+use Rattle.std.proofs.Common.{◌≡◌, ℕ, zero, suc, ◌+◌, ◌<◌, Bool, true, false, cond, List, [], ◌∷◌, length, take, get_or, bytes_eq, Option, Some, None, option_map, refl, sym, ap, ◌∙◌, arith}
 use Rattle.std.specs.List.{IsDistinct}
 use Rattle.std.specs.Map.{lookup, keys_of}
 use Rattle.std.specs.Cmp.Lexicographic.{nat_list_eq_equiv}
@@ -7,7 +7,7 @@ use Rattle.std.proofs.lemmas.Map.Keys.{apart_from_distinct, IsDistinct-tail}
 use Rattle.indexmap.specs.IndexMap.{insert_entry}
 use Rattle.lb_base.specs.declared.value.Value.{Value}
 use Rattle.boki_model.specs.Reads.{or_else}
-use Rattle.obj_store.specs.Kept.{KeptObject, object_in, total, count_of}
+use Rattle.obj_store.specs.Kept.{KeptObject, total, count_of}
 use Rattle.obj_store.specs.Steps.{Opens, opened}
 use Rattle.obj_store.proofs.Entries.{same_key, absent_adds}
 
@@ -25,8 +25,8 @@ not_before [] i d distinct lt = absurd (let h : ⊥ = omega arith in h)
 not_before (v ∷ vs) zero d distinct lt = refl
 not_before (v ∷ vs) (suc i) d distinct lt =
     ap (λ b. cond b (Some v.1) (lookup (bytes_eq (get_or vs i d).0) (take i vs)))
-      (nat_list_eq_equiv.symm (get_or vs i d).0 v.0 ∙ ap (bytes_eq v.0) (sym (key_at vs i d (omega arith)))
-      ∙ apart_from_distinct bytes_eq (keys_of (v ∷ vs)) 0 (suc i) d.0 distinct (omega arith) (omega (arith, keys_length vs)))
+    (nat_list_eq_equiv.symm (get_or vs i d).0 v.0 ∙ ap (bytes_eq v.0) (sym (key_at vs i d (omega arith)))
+    ∙ apart_from_distinct bytes_eq (keys_of (v ∷ vs)) 0 (suc i) d.0 distinct (omega arith) (omega (arith, keys_length vs)))
     ∙ not_before vs i d (IsDistinct-tail bytes_eq v.0 (keys_of vs) distinct) (omega arith)
 
 found_more : (q : List ℕ) (vs : List (List ℕ × Value)) (i : ℕ) (d : List ℕ × Value) → i < length vs
@@ -54,19 +54,23 @@ opens_more vs i d key o es fs lt distinct is value opens set finds unique = reco
     taken [] i lt = absurd (let h : ⊥ = omega arith in h)
     taken (v ∷ vs) zero lt = omega arith
     taken (v ∷ vs) (suc i) lt = ap (λ (n : ℕ). length (take n (v ∷ vs))) (let e : suc i + 1 ≡ suc (i + 1) = omega arith in e) ∙ (let t = taken vs i (omega arith) in omega arith)
+
     none : lookup (bytes_eq key) (take i vs) ≡ None
     none = ap (λ (q : List ℕ). lookup (bytes_eq q) (take i vs)) is ∙ not_before vs i d distinct lt
+
     absent : lookup (bytes_eq key) es ≡ None
     absent = opens.finds key ∙ ap (option_map opened) none
+
     or_none : (r : Option Value) → or_else r None ≡ r
     or_none None = refl
     or_none (Some v) = refl
+
     by : (q : List ℕ) (b : Bool) → bytes_eq key q ≡ b
         → cond b (Some o) (option_map opened (lookup (bytes_eq q) (take i vs))) ≡ option_map opened (or_else (lookup (bytes_eq q) (take i vs)) (cond (bytes_eq q (get_or vs i d).0) (Some (get_or vs i d).1) None))
     by q true e =
         ap Some value
         ∙ sym (ap (λ (r : Option Value). option_map opened (or_else r (cond (bytes_eq q (get_or vs i d).0) (Some (get_or vs i d).1) None))) (ap (λ (k : List ℕ). lookup (bytes_eq k) (take i vs)) (sym (same_key key q e)) ∙ none)
-          ∙ ap (λ b. option_map opened (cond b (Some (get_or vs i d).1) None)) (nat_list_eq_equiv.symm q (get_or vs i d).0 ∙ ap (λ (k : List ℕ). bytes_eq k q) (sym is) ∙ e))
+        ∙ ap (λ b. option_map opened (cond b (Some (get_or vs i d).1) None)) (nat_list_eq_equiv.symm q (get_or vs i d).0 ∙ ap (λ (k : List ℕ). bytes_eq k q) (sym is) ∙ e))
     by q false e =
         ap (option_map opened) (sym (or_none (lookup (bytes_eq q) (take i vs))))
         ∙ ap (λ b. option_map opened (or_else (lookup (bytes_eq q) (take i vs)) (cond b (Some (get_or vs i d).1) None))) (sym (nat_list_eq_equiv.symm q (get_or vs i d).0 ∙ ap (λ (k : List ℕ). bytes_eq k q) (sym is) ∙ e))

@@ -9,7 +9,7 @@ use Rattle.lb_base.specs.declared.value.Value.{Value}
 use Rattle.boki_types.specs.declared.store.Name.{Name}
 use Rattle.boki_types.specs.declared.store.Settled.{Settled}
 use Rattle.obj_store.specs.declared.objects.Passed.{Passed}
-use Rattle.obj_store.specs.Kept.{KeptObject, object_in, has_key, base_count, count_of, put_in, is_name, value_in}
+use Rattle.obj_store.specs.Kept.{KeptObject, object_in, has_key, base_count, put_in, is_name, value_in}
 use Rattle.obj_store.specs.Sweeps.{one_passed, passed_of, has_settled}
 use Rattle.obj_store.specs.Steps.{Widens, Changes, Puts, with_version, Raises, Lifts, raised_to, lifted, lifted_one, has_passed}
 use Rattle.obj_store.proofs.Entries.{same_key, key_itself}
@@ -98,15 +98,17 @@ pub raises_more : (keys : List (List ℕ)) (at i : ℕ) (key d : List ℕ) (es f
     → Raises (take i keys) at es fs → Changes key (raised_to at) fs gs → Raises (take (i + 1) keys) at es gs
 raises_more keys n i key d es fs gs lt is h g = record {
   objects = λ k. g.objects k ∙ ap (λ (o : KeptObject). cond (bytes_eq key k) (raised_to n o) o) (h.objects k) ∙ both k (has k (take i keys)) (bytes_eq key k) refl
-    ∙ ap (λ b. cond b (raised_to n (object_in k es)) (object_in k es)) (sym (has_take_more k keys i d lt ∙ ap (λ (q : List ℕ). has k (take i keys) || bytes_eq k q) (sym is)));
+      ∙ ap (λ b. cond b (raised_to n (object_in k es)) (object_in k es)) (sym (has_take_more k keys i d lt ∙ ap (λ (q : List ℕ). has k (take i keys) || bytes_eq k q) (sym is)));
   keys = g.keys ∙ h.keys;
   total = omega (arith, h.total, g.total);
 }
   where
     flip : (k q : List ℕ) → bytes_eq k q ≡ bytes_eq q k
     flip k q = lists_flip k q
+
     twice : (o : KeptObject) → raised_to n (raised_to n o) ≡ raised_to n o
     twice o = ap (λ (m : ℕ). let p : KeptObject = record o { fence = m } in p) (let e : max n (max n o.fence) ≡ max n o.fence = omega arith in e)
+
     both : (k : List ℕ) (a b : Bool) → bytes_eq key k ≡ b
         → cond b (raised_to n (cond a (raised_to n (object_in k es)) (object_in k es))) (cond a (raised_to n (object_in k es)) (object_in k es))
         ≡ cond (a || bytes_eq k key) (raised_to n (object_in k es)) (object_in k es)
@@ -125,7 +127,7 @@ pub lifts_more : (ps : List Passed) (p : Passed) (key : List ℕ) (es fs gs : Li
     → Changes key (λ (o : KeptObject). let q : KeptObject = record o { base = later p.write o.base } in q) fs gs → Lifts (ps ++ p ∷ []) es gs
 lifts_more ps p key es fs gs is h g = record {
   objects = λ k. g.objects k ∙ ap (λ b. cond b (record (object_in k fs) { base = later p.write (object_in k fs).base }) (object_in k fs)) (lists_flip key k ∙ ap (bytes_eq k) is)
-    ∙ ap (lifted_one k p) (h.objects k) ∙ sym (lifted_push k ps p (object_in k es));
+      ∙ ap (lifted_one k p) (h.objects k) ∙ sym (lifted_push k ps p (object_in k es));
   keys = g.keys ∙ h.keys;
   total = omega (arith, h.total, g.total, length_push ps p, by_one (object_in key fs).base);
 }
@@ -137,6 +139,7 @@ lifts_more ps p key es fs gs is h g = record {
         at : (b : Bool) → base_count (cond b (Some v) (Some p.write)) ≡ 1
         at true = refl
         at false = refl
+
     by_one : (o : Option Write) → base_count (later p.write o) ≤ base_count o + 1
     by_one o = omega (arith, one_more o)
 
@@ -165,6 +168,7 @@ removed_more ss i s es fs gs lt is h g n =
     both true false = refl
     both false true = refl
     both false false = refl
+
     more : (ss : List Settled) (i : ℕ) → i < length ss → has_settled n (take (i + 1) ss) ≡ (has_settled n (take i ss) || is_name ((get_or ss i s).name.path, (get_or ss i s).name.place) (n.path, n.place))
     more [] i lt = absurd (let h : ⊥ = omega arith in h)
     more (x ∷ xs) zero lt = at (is_name (x.name.path, x.name.place) (n.path, n.place))
@@ -213,7 +217,7 @@ length_put_in w (v ∷ vs) = at (is_below v.first v.second w.first w.second) (le
 pub puts_is : (key : List ℕ) (w v : Write) (es fs gs : List (List ℕ × KeptObject)) → v ≡ w → Widens es fs → Changes key (with_version v) fs gs → Puts key w es gs
 puts_is key w v es fs gs is h g = record {
   objects = λ k. g.objects k ∙ ap (λ (o : KeptObject). cond (bytes_eq key k) (with_version v o) o) (h.objects k)
-    ∙ ap (λ (x : Write). cond (bytes_eq key k) (with_version x (object_in k es)) (object_in k es)) is;
+      ∙ ap (λ (x : Write). cond (bytes_eq key k) (with_version x (object_in k es)) (object_in k es)) is;
   total = omega (arith, h.total, g.total, length_put_in v (object_in key fs).versions);
   distinct = λ d. subst (IsDistinct bytes_eq) (sym g.keys) (h.distinct d);
 }

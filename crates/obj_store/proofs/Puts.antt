@@ -1,26 +1,20 @@
 -- An object store that stands for a store, after a version was put in, fences were raised, or a value was stored under a name.
-use Rattle.std.proofs.Common.{◌≡◌, ℕ, zero, suc, ◌+◌, ◌<◌, ◌≤◌, ltb, leb, eqb, max, Bool, true, false, cond, not, ◌&&◌, ◌||◌, List, [], ◌∷◌, ◌++◌, length, filter, bytes_eq, Option, Some, None, is_some, unwrap_or, refl, sym, ap, ◌∙◌, subst, arith}
-use Rattle.std.specs.List.{IsDistinct}
-use Rattle.std.specs.Map.{lookup, keys_of}
+use Rattle.std.proofs.Common.{◌≡◌, ℕ, ◌+◌, ◌<◌, ◌≤◌, ltb, leb, Bool, true, false, cond, not, ◌&&◌, List, ◌∷◌, bytes_eq, Option, Some, None, is_some, unwrap_or, refl, sym, ap, ◌∙◌, subst, arith}
+use Rattle.std.specs.Map.{lookup}
 use Rattle.std.specs.Cmp.Lexicographic.{nat_list_eq_equiv}
 use Rattle.std.proofs.lemmas.Map.Entries.{lookup_from_place}
 use Rattle.std.proofs.lemmas.Bool.Decides.{nat_tests}
 use Rattle.lb_base.specs.declared.value.Value.{Value}
 use Rattle.boki_types.specs.declared.body.Body.{Body}
-use Rattle.boki_types.specs.declared.store.Name.{Name}
-use Rattle.boki_types.specs.declared.store.Put.{Put}
 use Rattle.boki_types.specs.declared.store.Put.TheVariants as u
 use Rattle.boki_model.specs.Live.{Live}
-use Rattle.boki_model.specs.Maps.{has}
-use Rattle.boki_model.specs.Writes.{Stored, Version, Store, Write, Raised, is_below, later, last_below, logged_writes, version, version_writes, write_at, fence, raised, put_at, put_by, puts_in, after_put, has_version}
-use Rattle.boki_model.specs.WriteLaws.{AreNumbered}
+use Rattle.boki_model.specs.Writes.{Version, Store, Write, is_below, later, last_below, logged_writes, version, version_writes, write_at, fence, put_at, put_by, puts_in, after_put, has_version}
 use Rattle.obj_store.specs.declared.object.Case.{Case}
 use Rattle.obj_store.specs.declared.object.Case.TheVariants as s
 use Rattle.obj_store.specs.Ascending.{Ascend, has_at}
-use Rattle.obj_store.specs.Kept.{Kept, KeptObject, blank, object_in, in_order, put_in, last_of, is_name, total}
-use Rattle.obj_store.specs.StandsFor.{StandsFor, IsSound, standing, kept_of, initial_write}
-use Rattle.obj_store.specs.Steps.{AllAscend, Widens, Puts, Raises, case_of, case_by, with_version, raised_to}
-use Rattle.obj_store.proofs.Entries.{same_key, key_itself}
+use Rattle.obj_store.specs.Kept.{Kept, KeptObject, blank, object_in, in_order, last_of}
+use Rattle.obj_store.specs.StandsFor.{StandsFor, standing, kept_of, initial_write}
+use Rattle.obj_store.specs.Steps.{AllAscend, Widens, Puts, case_of, case_by, with_version}
 use Rattle.obj_store.proofs.Versions.{ascends, has_in_order, has_version_write, version_standing}
 
 pub object_is : (o p : KeptObject) → o.base ≡ p.base → o.versions ≡ p.versions → o.fence ≡ p.fence → o ≡ p
@@ -80,9 +74,10 @@ module _ (kept : Kept) (m : Store) (records : List (Live Body)) (stands : Stands
 
     puts_by : (g t r : Bool) → ltb cursor m.floor ≡ g → has_version key cursor k m ≡ t → ltb cursor (fence key m.fences) ≡ r
         → (put_at key cursor k m ≡ put_by g t r) × (puts_in key cursor k m ≡ (not g && not t && not r))
-    puts_by g t r a b c =
-        (ap (λ x. put_by x (has_version key cursor k m) (ltb cursor (fence key m.fences))) a ∙ ap (λ x. put_by g x (ltb cursor (fence key m.fences))) b ∙ ap (put_by g t) c,
-        ap (λ x. not x && not (has_version key cursor k m) && not (ltb cursor (fence key m.fences))) a ∙ ap (λ x. not g && not x && not (ltb cursor (fence key m.fences))) b ∙ ap (λ x. not g && not t && not x) c)
+    puts_by g t r a b c = (
+      ap (λ x. put_by x (has_version key cursor k m) (ltb cursor (fence key m.fences))) a ∙ ap (λ x. put_by g x (ltb cursor (fence key m.fences))) b ∙ ap (put_by g t) c,
+      ap (λ x. not x && not (has_version key cursor k m) && not (ltb cursor (fence key m.fences))) a ∙ ap (λ x. not g && not x && not (ltb cursor (fence key m.fences))) b ∙ ap (λ x. not g && not t && not x) c,
+    )
 
     and_false : (x : Bool) → (false && x) ≡ false
     and_false x = refl
@@ -116,41 +111,49 @@ module _ (kept : Kept) (m : Store) (records : List (Live Body)) (stands : Stands
         → (u.Done ≡ put_at key cursor k m) × StandsFor (record kept { objects = gs; held = held }) (after_put key cursor k value m) records
     put_free gs held one is puts more =
         let t = free_tells (has_version key cursor k m) (ltb cursor (fence key m.fences)) (sym (case_is key cursor k le) ∙ is) in
-        let p = puts_by false false false not_low t.0 t.1 in
-        (sym p.0, subst (λ b. StandsFor (record kept { objects = gs; held = held }) (cond b (record m { versions = record { key = key; cursor = cursor; k = k; value = value } ∷ m.versions }) m) records) (sym p.1)
-          record {
-            floor = stands.floor;
-            objects = λ q. puts.objects q ∙ ap (λ (o : KeptObject). cond (bytes_eq key q) (with_version (write_at cursor k value) o) o) (stands.objects q) ∙ at q (bytes_eq key q) (nat_list_eq_equiv.symm q key) refl;
-            named = stands.named;
-            sound = record { keys = puts.distinct stands.sound.keys; names = stands.sound.names; count = omega (arith, more, puts.total, stands.sound.count) };
-            numbered = (one, none (version key cursor k m.versions) t.0, stands.numbered);
-            differ = stands.differ;
-            valued = stands.valued;
-            end = stands.end;
-            falls = stands.falls;
-          })
+        let p = puts_by false false false not_low t.0 t.1 in (
+          sym p.0,
+          subst (λ b. StandsFor (record kept { objects = gs; held = held }) (cond b (record m { versions = record { key = key; cursor = cursor; k = k; value = value } ∷ m.versions }) m) records) (sym p.1)
+              record {
+                floor = stands.floor;
+                objects = λ q. puts.objects q ∙ ap (λ (o : KeptObject). cond (bytes_eq key q) (with_version (write_at cursor k value) o) o) (stands.objects q) ∙ at q (bytes_eq key q) (nat_list_eq_equiv.symm q key) refl;
+                named = stands.named;
+                sound = record { keys = puts.distinct stands.sound.keys; names = stands.sound.names; count = omega (arith, more, puts.total, stands.sound.count) };
+                numbered = (one, none (version key cursor k m.versions) t.0, stands.numbered);
+                differ = stands.differ;
+                valued = stands.valued;
+                end = stands.end;
+                falls = stands.falls;
+              },
+        )
       where
         none : (o : Option Value) → is_some o ≡ false → o ≡ None
         none None e = refl
         none (Some v) e = absurd (let n : ⊥ = cc in n)
+
         stays_in : leb m.floor cursor ≡ true
         stays_in = grind (arith, nat_tests)
+
         not_under : is_below cursor k m.floor 0 ≡ false
         not_under = grind (arith, nat_tests)
+
         w : Write
         w = write_at cursor k value
+
         base_stays : (q : List ℕ) (b : Bool) → bytes_eq q key ≡ b
             → last_below m.floor 0 (version_writes q (record { key = key; cursor = cursor; k = k; value = value } ∷ m.versions)) ≡ last_below m.floor 0 (version_writes q m.versions)
         base_stays q true e =
             ap (λ b. last_below m.floor 0 (cond b (write_at cursor k value ∷ version_writes q m.versions) (version_writes q m.versions))) e
             ∙ ap (λ b. cond b (later (write_at cursor k value) (last_below m.floor 0 (version_writes q m.versions))) (last_below m.floor 0 (version_writes q m.versions))) not_under
         base_stays q false e = ap (λ b. last_below m.floor 0 (cond b (write_at cursor k value ∷ version_writes q m.versions) (version_writes q m.versions))) e
+
         versions_are : (q : List ℕ) (b : Bool) → bytes_eq q key ≡ b
             → in_order (version_writes q (standing m.floor (record { key = key; cursor = cursor; k = k; value = value } ∷ m.versions)))
             ≡ in_order (cond b (write_at cursor k value ∷ version_writes q (standing m.floor m.versions)) (version_writes q (standing m.floor m.versions)))
         versions_are q b e =
             ap (λ x. in_order (version_writes q (cond x (record { key = key; cursor = cursor; k = k; value = value } ∷ standing m.floor m.versions) (standing m.floor m.versions)))) stays_in
             ∙ ap (λ x. in_order (cond x (write_at cursor k value ∷ version_writes q (standing m.floor m.versions)) (version_writes q (standing m.floor m.versions)))) e
+
         at : (q : List ℕ) (b : Bool) → bytes_eq q key ≡ b → bytes_eq key q ≡ b
             → cond b (with_version (write_at cursor k value) (kept_of q m records)) (kept_of q m records)
             ≡ kept_of q (record m { versions = record { key = key; cursor = cursor; k = k; value = value } ∷ m.versions }) records

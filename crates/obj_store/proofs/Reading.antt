@@ -1,22 +1,20 @@
 -- What a read of an object store answers, where it stands for a store.
-use Rattle.std.proofs.Common.{◌≡◌, ◌⊎◌, inl, inr, ℕ, zero, suc, ◌+◌, ◌-◌, ◌<◌, ◌≤◌, ltb, leb, eqb, Bool, true, false, cond, ◌&&◌, ◌||◌, List, [], ◌∷◌, ◌++◌, bytes_eq, Option, Some, None, is_some, option_map, refl, sym, ap, ◌∙◌, subst, arith, IsTrue}
+use Rattle.std.proofs.Common.{◌≡◌, ◌⊎◌, inl, inr, ℕ, suc, ◌<◌, ◌≤◌, ltb, leb, Bool, true, false, cond, List, [], ◌∷◌, ◌++◌, bytes_eq, Option, Some, None, is_some, option_map, refl, sym, ap, ◌∙◌, subst, arith}
 use Rattle.std.proofs.lemmas.Bool.Decides.{nat_tests}
 use Rattle.std.specs.Option.{IsSomeAnd, MatchOption}
 use Rattle.lb_base.specs.declared.value.Value.{Value}
 use Rattle.boki_types.specs.declared.body.Body.{Body}
 use Rattle.boki_types.specs.declared.store.Name.{Name}
-use Rattle.boki_types.specs.declared.store.Fenced.{Fenced}
-use Rattle.boki_types.specs.declared.store.Fenced.TheVariants as f
 use Rattle.boki_model.specs.Live.{Live}
 use Rattle.boki_model.specs.Maps.{get}
 use Rattle.boki_model.specs.Reads.{or_else}
 use Rattle.boki_model.specs.WriteLaws.{AreNumbered}
-use Rattle.boki_model.specs.Writes.{Stored, Version, Store, Write, is_below, later, last_below, last, found, writes_of, logged_writes, version_writes, initial_writes, write_at, with, here_or_named, value_of, is_settled}
-use Rattle.obj_store.specs.Ascending.{not_below, last_value}
-use Rattle.obj_store.specs.Kept.{Kept, KeptObject, object_in, last_of, in_order, value_in}
-use Rattle.obj_store.specs.StandsFor.{StandsFor, standing, kept_of, base_of, kept_under, initial_write, last_logged, IsCovered}
+use Rattle.boki_model.specs.Writes.{Version, Store, Write, is_below, last_below, last, logged_writes, version_writes, initial_writes, write_at, with, here_or_named, value_of, is_settled}
+use Rattle.obj_store.specs.Ascending.{not_below}
+use Rattle.obj_store.specs.Kept.{Kept, KeptObject, object_in, last_of, value_in}
+use Rattle.obj_store.specs.StandsFor.{StandsFor, standing, kept_of, base_of, initial_write, last_logged, IsCovered}
 use Rattle.obj_store.specs.Steps.{kept_upto, value_upto, value_of_last, value_at_floor}
-use Rattle.obj_store.proofs.Lasts.{If, Each, Apart, last_none, last_assoc, last_swap, last_past, last_append, last_split, last_in_order, each_has, each_from, below_floor, apart_from, last_has, below_has}
+use Rattle.obj_store.proofs.Lasts.{If, Each, Apart, last_assoc, last_swap, last_past, last_append, last_split, last_in_order, each_has, below_floor, last_has}
 use Rattle.obj_store.proofs.Versions.{writes_standing}
 use Rattle.obj_store.proofs.LoggedWrites.{IsLogged, each_logged, Tells, tells}
 
@@ -155,32 +153,34 @@ module _ (kept : Kept) (m : Store) (records : List (Live Body)) (stands : Stands
     kept_is : kept_upto n (kept_of key m records) ≡ last_of (last_below (suc n) 0 (not_below m.floor (version_writes key m.versions))) (base_of key m records)
     kept_is =
         ap (λ (o : Option Write). or_else o (base_of key m records)) (last_in_order (suc n) 0 (version_writes key (standing m.floor m.versions))
-          ∙ ap (last_below (suc n) 0) (writes_standing m.floor key m.versions))
+        ∙ ap (last_below (suc n) 0) (writes_standing m.floor key m.versions))
         ∙ or_last m.floor Vh (base_of key m records) Vh_high base_low
 
     -- where no logged write is at or above the floor
     without : Ln ≡ Lf → last key (suc n) 0 m records ≡ option_map (λ w. w.value) (kept_upto n (kept_of key m records))
     without e =
         asked ∙ ap (option_map (λ (w : Write). w.value)) (
-          ap (λ (o : Option Write). last_of Vh (last_of Vf (last_of o I))) e
-          ∙ ap (last_of Vh) (last_past Vf Lf I Vf_Lf) ∙ sym kept_is)
+        ap (λ (o : Option Write). last_of Vh (last_of Vf (last_of o I))) e
+        ∙ ap (last_of Vh) (last_past Vf Lf I Vf_Lf) ∙ sym kept_is)
 
     -- where one is
     beyond : (seq : ℕ) (v : Value) → 0 < seq → m.floor ≤ seq → Ln ≡ Some (write_at seq 0 v)
         → last key (suc n) 0 m records ≡ option_map (λ w. w.value) (last_of (kept_upto n (kept_of key m records)) (Some (write_at seq 0 v)))
     beyond seq v pos high e =
         asked ∙ ap (option_map (λ (w : Write). w.value)) (
-          ap (λ (o : Option Write). last_of Vh (last_of Vf (last_of o I))) e
-          ∙ ap (last_of Vh) (sym inner) ∙ sym (last_assoc Vh (base_of key m records) W) ∙ ap (λ (o : Option Write). last_of o W) (sym kept_is))
+        ap (λ (o : Option Write). last_of Vh (last_of Vf (last_of o I))) e
+        ∙ ap (last_of Vh) (sym inner) ∙ sym (last_assoc Vh (base_of key m records) W) ∙ ap (λ (o : Option Write). last_of o W) (sym kept_is))
       where
         W : Option Write
         W = Some (write_at seq 0 v)
+
         I_W : Apart I W
         I_W = by I (initial_at key m.initial)
           where
             by : (o : Option Write) → If o (λ w. (w.first ≡ 0) × (w.second ≡ 0)) → Apart o (Some (write_at seq 0 v))
             by None h = tt
             by (Some w) h = λ a s. absurd (let z : ⊥ = (let h0 = h.0 in omega arith) in z)
+
         inner : last_of (base_of key m records) (Some (write_at seq 0 v)) ≡ last_of Vf (last_of (Some (write_at seq 0 v)) I)
         inner =
             last_assoc Lf (last_of Vf I) W
@@ -213,10 +213,12 @@ module _ (kept : Kept) (m : Store) (records : List (Live Body)) (stands : Stands
     where
       T : Tells key m.named (suc n) (logged_writes key m.named records) (Some l)
       T = subst (Tells key m.named (suc n) (logged_writes key m.named records)) (sym is) (tells key m.named (suc n) stands.end records stands.falls)
+
       kept_here : value_upto kept.floor n (object_in key kept.objects) kept.named (Some l) ≡ value_of_last (kept_upto n (kept_of key m records)) l.0 (cond (ltb l.0 m.floor) None (or_else l.1.1 (value_in l.1.0 kept.named)))
       kept_here =
           ap (λ (o : KeptObject). value_of_last (kept_upto n o) l.0 (value_at_floor kept.floor kept.named l)) (stands.objects key)
           ∙ ap (λ (x : ℕ). value_of_last (kept_upto n (kept_of key m records)) l.0 (cond (ltb l.0 x) None (or_else l.1.1 (value_in l.1.0 kept.named)))) stands.floor
+
       by : (b : Bool) → ltb l.0 m.floor ≡ b → IsCovered key kept l → value_upto kept.floor n (object_in key kept.objects) kept.named (Some l) ≡ last key (suc n) 0 m records
       by true e g =
           kept_here ∙ ap (λ b. value_of_last (kept_upto n (kept_of key m records)) l.0 (cond b None (or_else l.1.1 (value_in l.1.0 kept.named)))) e

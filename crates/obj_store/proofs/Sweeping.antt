@@ -1,5 +1,5 @@
 -- What a sweep makes of one object and of the names.
-use Rattle.std.proofs.Common.{◌≡◌, ◌⊎◌, inl, inr, ℕ, zero, suc, ◌+◌, ◌-◌, ◌<◌, ◌≤◌, ltb, leb, eqb, max, Bool, true, false, cond, not, ◌&&◌, ◌||◌, List, [], ◌∷◌, ◌++◌, length, filter, bytes_eq, Option, Some, None, is_some, unwrap_or, option_map, refl, sym, ap, ◌∙◌, subst, arith, IsTrue}
+use Rattle.std.proofs.Common.{◌≡◌, ℕ, suc, ◌+◌, ◌<◌, ◌≤◌, ltb, leb, Bool, true, false, cond, ◌&&◌, ◌||◌, List, [], ◌∷◌, ◌++◌, length, bytes_eq, Option, Some, None, is_some, unwrap_or, option_map, refl, sym, ap, ◌∙◌, arith}
 use Rattle.std.specs.Map.{lookup, keys_of, values_of}
 use Rattle.std.proofs.lemmas.List.Sums.{sum_by-cons}
 use Rattle.std.proofs.lemmas.Bool.Decides.{nat_tests}
@@ -9,14 +9,14 @@ use Rattle.boki_types.specs.declared.store.Name.{Name}
 use Rattle.boki_types.specs.declared.store.Settled.{Settled}
 use Rattle.boki_model.specs.Live.{Live}
 use Rattle.boki_model.specs.Reads.{or_else}
-use Rattle.boki_model.specs.Writes.{Stored, Version, Store, Write, is_below, later, last_below, logged_write, logged_writes, version_writes, write_at, with, if_key, here_or_named, names_write, same_name, value_of, is_settled}
+use Rattle.boki_model.specs.Writes.{Stored, Version, Store, Write, is_below, later, last_below, logged_write, logged_writes, version_writes, write_at, with, if_key, here_or_named, names_write, same_name, is_settled}
 use Rattle.obj_store.specs.declared.objects.Passed.{Passed}
 use Rattle.obj_store.specs.Ascending.{not_below}
 use Rattle.obj_store.specs.Kept.{Kept, KeptObject, blank, base_count, count_of, total, object_in, put_in, in_order, last_of, is_name, value_in}
-use Rattle.obj_store.specs.StandsFor.{StandsFor, standing, kept_of, base_of, kept_under, initial_write, HasValue, HaveValues}
+use Rattle.obj_store.specs.StandsFor.{standing, HasValue, HaveValues}
 use Rattle.obj_store.specs.Steps.{settled_at, settled_all, lifted, lifted_one}
-use Rattle.obj_store.specs.Sweeps.{settled_of, logged_between, settled_value, AllHaveValues, one_passed, passed_of, has_settled}
-use Rattle.obj_store.proofs.Lasts.{If, Each, Apart, last_none, last_assoc, last_past, last_split, last_in_order, each_has, each_from, below_floor, apart_from}
+use Rattle.obj_store.specs.Sweeps.{settled_of, logged_between, AllHaveValues, one_passed, passed_of, has_settled}
+use Rattle.obj_store.proofs.Lasts.{last_assoc}
 use Rattle.obj_store.proofs.Versions.{writes_standing}
 use Rattle.obj_store.proofs.Fences.{name_flip}
 
@@ -163,8 +163,8 @@ module _ (kept : Kept) (m : Store) (named_is : (here : Option Value) (name : Nam
               ap (later (write_at x.seq 0 u)) ih
               ∙ sym (last_assoc (Some (write_at x.seq 0 u)) (last_below g 0 (not_below f (logged_writes key m.named xs))) o.base)
               ∙ ap (λ (r : Option Write). last_of r o.base) (sym (
-                ap (λ b. last_below g 0 (cond b (write_at x.seq 0 u ∷ not_below f (logged_writes key m.named xs)) (not_below f (logged_writes key m.named xs)))) e
-                ∙ ap (λ b. cond b (later (write_at x.seq 0 u) (last_below g 0 (not_below f (logged_writes key m.named xs)))) (last_below g 0 (not_below f (logged_writes key m.named xs)))) (let t : is_below x.seq 0 g 0 ≡ true = grind (arith, nat_tests) in t)))
+              ap (λ b. last_below g 0 (cond b (write_at x.seq 0 u ∷ not_below f (logged_writes key m.named xs)) (not_below f (logged_writes key m.named xs)))) e
+              ∙ ap (λ b. cond b (later (write_at x.seq 0 u) (last_below g 0 (not_below f (logged_writes key m.named xs)))) (last_below g 0 (not_below f (logged_writes key m.named xs)))) (let t : is_below x.seq 0 g 0 ≡ true = grind (arith, nat_tests) in t)))
           at false u = ih
 
 -- names
@@ -190,14 +190,17 @@ settled_grows q f g (x ∷ xs) le =
     all true false b c e = refl
     all false true b c e = e
     all false false b c e = e
+
     old : (n a b c : Bool) → c ≡ (a || b) → (n || c) ≡ ((a || false) || (n || b))
     old true true b c e = refl
     old true false b c e = refl
     old false true b c e = e
     old false false b c e = e
+
     none : (a b c : Bool) → c ≡ (a || b) → (false || c) ≡ ((a || false) || (false || b))
     none true b c e = e
     none false b c e = e
+
     by : (w : Option (List ℕ × (Name × Option Value))) (p r s : Bool) → leb f x.seq ≡ p → ltb x.seq g ≡ r → ltb x.seq f ≡ s → (a b c : Bool) → c ≡ (a || b)
         → ((r && names_write q w) || c) ≡ ((a || has_settled q (settled_of (p && r) x.seq w)) || ((s && names_write q w) || b))
     by w true true true e h k a b c ih = absurd (let z : ⊥ = grind (arith, nat_tests) in z)
@@ -245,6 +248,7 @@ dropped_count f (w ∷ ws) = by (leb f w.first) (is_below w.first w.second f 0) 
         at : (b : Bool) → base_count (cond b (Some v) (Some w)) ≡ 1
         at true = refl
         at false = refl
+
     by : (p q : Bool) → leb f w.first ≡ p → is_below w.first w.second f 0 ≡ q → length (not_below f ws) + base_count (last_below f 0 ws) ≤ length ws → (o : Option Write) → last_below f 0 ws ≡ o
         → length (cond p (w ∷ not_below f ws) (not_below f ws)) + base_count (cond q (later w (last_below f 0 ws)) (last_below f 0 ws)) ≤ suc (length ws)
     by true true e h ih o is = absurd (let z : ⊥ = grind (arith, nat_tests) in z)

@@ -1,5 +1,5 @@
 -- An object store that stands for a store does so after a sweep.
-use Rattle.std.proofs.Common.{◌≡◌, ℕ, zero, suc, ◌+◌, ◌<◌, ◌≤◌, ◌^◌, ltb, leb, max, Bool, true, false, cond, ◌||◌, List, [], ◌∷◌, length, bytes_eq, Option, Some, None, refl, sym, ap, ◌∙◌, subst, arith}
+use Rattle.std.proofs.Common.{◌≡◌, ℕ, ◌+◌, ◌<◌, ◌≤◌, ◌^◌, max, Bool, true, false, cond, ◌||◌, List, [], length, bytes_eq, Option, None, refl, sym, ap, ◌∙◌, subst, arith}
 use Rattle.std.specs.List.{IsDistinct}
 use Rattle.std.specs.Map.{keys_of}
 use Rattle.lb_base.specs.declared.value.Value.{Value}
@@ -10,14 +10,14 @@ use Rattle.boki_model.specs.Live.{Live}
 use Rattle.boki_model.specs.Reads.{or_else}
 use Rattle.boki_model.specs.Writes.{Store, Write, last_below, logged_writes, version_writes, value_of, is_settled, swept}
 use Rattle.obj_store.specs.Ascending.{not_below}
-use Rattle.obj_store.specs.Kept.{Kept, KeptObject, object_in, in_order, last_of, is_name, value_in, total}
-use Rattle.obj_store.specs.StandsFor.{StandsFor, IsSound, standing, kept_of, base_of, initial_write}
+use Rattle.obj_store.specs.Kept.{Kept, KeptObject, object_in, last_of, is_name, value_in, total}
+use Rattle.obj_store.specs.StandsFor.{StandsFor, standing, kept_of, base_of, initial_write}
 use Rattle.obj_store.specs.Steps.{Widens, Lifts, settled_at, settled_all, lifted}
 use Rattle.obj_store.specs.Sweeps.{logged_between, AllHaveValues, passed_of, has_settled}
-use Rattle.obj_store.proofs.Lasts.{Apart, last_assoc, last_past, last_split, last_in_order, each_has, each_from, below_floor, apart_from}
+use Rattle.obj_store.proofs.Lasts.{last_assoc, last_past, last_split, last_in_order, each_has, each_from, below_floor, apart_from}
 use Rattle.obj_store.proofs.Versions.{writes_standing}
 use Rattle.obj_store.proofs.Puts.{object_is}
-use Rattle.obj_store.proofs.Reading.{to_model, base_low, or_last, each_high, each_numbered, if_weaker}
+use Rattle.obj_store.proofs.Reading.{to_model, base_low, or_last, each_high, each_numbered}
 use Rattle.obj_store.proofs.Sweeping.{versions_swept, lifted_versions, lifted_fence, base_lifted, settled_grows, values_swept, total_settled, length_passed, settled_object, settled_keys}
 
 module _ (kept : Kept) (m : Store) (records : List (Live Body)) (stands : StandsFor kept m records) (g : ℕ) (le : m.floor ≤ g)
@@ -38,11 +38,11 @@ module _ (kept : Kept) (m : Store) (records : List (Live Body)) (stands : Stands
           let Vf = last_below m.floor 0 V in
           base_lifted kept m (to_model kept m records stands k) m.floor g le k records (settled_at g (kept_of k m records)) valued
           ∙ ap (last_of Lh) (
-            ap (λ (o : Option Write). or_else o (base_of k m records)) (last_in_order g 0 (version_writes k (standing m.floor m.versions)) ∙ ap (last_below g 0) (writes_standing m.floor k m.versions))
-            ∙ or_last m.floor Vh (base_of k m records)
-              (each_has (λ w. (m.floor ≤ w.first) × (0 < w.second)) g 0 (not_below m.floor V) (each_high m.floor (λ w. 0 < w.second) V (each_numbered k m.versions stands.numbered)))
-              (base_low kept m records stands k)
-            ∙ last_past Vh Lf (last_of Vf I) (apart_from m.floor Vh Lf (each_has (λ w. m.floor ≤ w.first) g 0 (not_below m.floor V) (each_from m.floor V)) (below_floor m.floor L)))
+          ap (λ (o : Option Write). or_else o (base_of k m records)) (last_in_order g 0 (version_writes k (standing m.floor m.versions)) ∙ ap (last_below g 0) (writes_standing m.floor k m.versions))
+          ∙ or_last m.floor Vh (base_of k m records)
+          (each_has (λ w. (m.floor ≤ w.first) × (0 < w.second)) g 0 (not_below m.floor V) (each_high m.floor (λ w. 0 < w.second) V (each_numbered k m.versions stands.numbered)))
+          (base_low kept m records stands k)
+          ∙ last_past Vh Lf (last_of Vf I) (apart_from m.floor Vh Lf (each_has (λ w. m.floor ≤ w.first) g 0 (not_below m.floor V) (each_from m.floor V)) (below_floor m.floor L)))
           ∙ sym (last_assoc Lh Lf (last_of Vh (last_of Vf I)))
           ∙ ap (λ (o : Option Write). last_of o (last_of Vh (last_of Vf I))) (sym (last_split m.floor g 0 L le))
           ∙ ap (last_of (last_below g 0 L)) (sym (last_assoc Vh Vf I) ∙ ap (λ (o : Option Write). last_of o I) (sym (last_split m.floor g 0 V le)))
@@ -57,10 +57,10 @@ module _ (kept : Kept) (m : Store) (records : List (Live Body)) (stands : Stands
       subst (λ (n : ℕ). StandsFor (record kept { objects = fs; named = gs; floor = g; held = held }) (record m { floor = n }) records) (let e : g ≡ max g m.floor = omega arith in e) record {
         floor = refl;
         objects = λ k. lifts.objects k ∙ ap (λ (ss : List Settled). lifted k (passed_of kept.named ss) (object_in k (settled_all g es))) is
-          ∙ ap (lifted k (passed_of kept.named (logged_between m.floor g records))) (settled_object g k es ∙ ap (settled_at g) (wide.objects k ∙ stands.objects k))
-          ∙ object_swept k;
+            ∙ ap (lifted k (passed_of kept.named (logged_between m.floor g records))) (settled_object g k es ∙ ap (settled_at g) (wide.objects k ∙ stands.objects k))
+            ∙ object_swept k;
         named = λ q. finds q ∙ by q (has_settled q settled) (is_settled q m.floor records) (stands.named q)
-          ∙ ap (λ b. cond b None (value_of q m.named)) (ap (λ (ss : List Settled). has_settled q ss || is_settled q m.floor records) is ∙ sym (settled_grows q m.floor g records le));
+            ∙ ap (λ b. cond b None (value_of q m.named)) (ap (λ (ss : List Settled). has_settled q ss || is_settled q m.floor records) is ∙ sym (settled_grows q m.floor g records le));
         sound = record {
           keys = subst (IsDistinct bytes_eq) (sym (lifts.keys ∙ settled_keys g es)) (wide.distinct stands.sound.keys);
           names = distinct stands.sound.names;

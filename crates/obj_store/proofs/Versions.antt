@@ -1,14 +1,14 @@
 -- The versions of a key at or above the floor, in the order of their positions.
-use Rattle.std.proofs.Common.{◌≡◌, ℕ, zero, suc, ◌+◌, ◌<◌, ◌≤◌, ltb, leb, eqb, Bool, true, false, cond, not, ◌&&◌, ◌||◌, List, [], ◌∷◌, ◌++◌, filter, bytes_eq, Option, Some, None, is_some, refl, sym, ap, ◌∙◌, subst, arith}
+use Rattle.std.proofs.Common.{◌≡◌, ℕ, ◌≤◌, leb, eqb, Bool, true, false, cond, ◌&&◌, ◌||◌, List, [], ◌∷◌, bytes_eq, Option, Some, is_some, refl, sym, ap, ◌∙◌, subst, arith}
 use Rattle.std.proofs.lemmas.Bool.Decides.{nat_tests}
-use Rattle.boki_model.specs.Writes.{Write, Version, is_below, later, last_below, version, version_writes, write_at}
+use Rattle.boki_model.specs.Writes.{Write, Version, is_below, version, version_writes, write_at}
 use Rattle.lb_base.specs.declared.value.Value.{Value}
 use Rattle.boki_model.specs.WriteLaws.{AreNumbered}
 use Rattle.obj_store.specs.Ascending.{AllAbove, Ascend, has_at, not_below}
 use Rattle.obj_store.specs.Kept.{put_in, in_order}
 use Rattle.obj_store.specs.StandsFor.{standing}
 use Rattle.obj_store.proofs.Positions.{below_trans}
-use Rattle.obj_store.proofs.Entries.{same_key, key_itself}
+use Rattle.obj_store.proofs.Entries.{same_key}
 
 -- where a write stands among those in order
 
@@ -21,6 +21,7 @@ has_put_in c k w (v ∷ vs) = at (is_below v.first v.second w.first w.second) (h
     swap true false r = refl
     swap false true r = refl
     swap false false r = refl
+
     at : (b : Bool) → has_at c k (put_in w vs) ≡ has_at c k (w ∷ vs) → has_at c k (cond b (v ∷ put_in w vs) (w ∷ v ∷ vs)) ≡ has_at c k (w ∷ v ∷ vs)
     at true ih = ap (λ b. (eqb c v.first && eqb k v.second) || b) ih ∙ swap (eqb c v.first && eqb k v.second) (eqb c w.first && eqb k w.second) (has_at c k vs)
     at false ih = refl
@@ -110,4 +111,4 @@ ascends f key (v ∷ vs) h = at (leb f v.cursor) (bytes_eq key v.key) refl refl 
         (ascend_put_in (write_at v.cursor v.k v.value) (in_order (version_writes key (standing f vs))) ih
         (has_in_order v.cursor v.k (version_writes key (standing f vs)) ∙ has_version_write key v.cursor v.k (standing f vs)
         ∙ ap is_some (version_standing f key v.cursor v.k vs (let le : f ≤ v.cursor = grind (arith, nat_tests) in le)
-          ∙ ap (λ (q : List ℕ). version q v.cursor v.k vs) (same_key key v.key e) ∙ h.1)))
+        ∙ ap (λ (q : List ℕ). version q v.cursor v.k vs) (same_key key v.key e) ∙ h.1)))

@@ -1,5 +1,5 @@
 -- What the reads are told of logged writes, and what they answer.
-use Rattle.std.specs.Prelude.{◌≡◌, ℕ, List, Option, Some, None, option_map}
+use Rattle.std.specs.Prelude.{◌≡◌, ℕ, List, Option, option_map}
 use Rattle.std.specs.Option.{MatchOption, option_copied}
 use Rattle.lb_base.specs.declared.value.Value.{Value}
 use Rattle.boki_types.specs.declared.body.Body.{Body}

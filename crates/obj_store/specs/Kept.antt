@@ -1,5 +1,5 @@
 -- What an object store keeps.
-use Rattle.std.specs.Prelude.{◌≡◌, ℕ, ◌+◌, ◌==◌, ◌&&◌, Bool, cond, nat_le, List, [], ◌∷◌, length, map, filter, sum_by, bytes_eq, Option, Some, None, unwrap_or, is_some}
+use Rattle.std.specs.Prelude.{ℕ, ◌+◌, ◌==◌, ◌&&◌, Bool, cond, List, [], ◌∷◌, length, sum_by, bytes_eq, Option, Some, None, unwrap_or, is_some}
 use Rattle.std.specs.Map.{lookup, values_of}
 use Rattle.lb_base.specs.declared.value.Value.{Value}
 use Rattle.boki_types.specs.declared.store.Name.{Name}

@@ -1,5 +1,5 @@
 -- What the calls do with one object.
-use Rattle.std.specs.Prelude.{◌≡◌, ℕ, Bool, true, false, cond, nat_le, nat_lt, List, [], ◌∷◌, filter, map, slice_get, length, max, option_map, ◌≤◌, suc, ◌-◌, ◌+◌, ◌==◌, ◌||◌, bytes_eq, Option, Some, None}
+use Rattle.std.specs.Prelude.{◌≡◌, ℕ, Bool, true, false, cond, nat_lt, List, [], ◌∷◌, filter, map, slice_get, length, max, option_map, ◌≤◌, suc, ◌-◌, ◌+◌, ◌==◌, ◌||◌, bytes_eq, Option, Some, None}
 use Rattle.std.specs.List.{IsDistinct}
 use Rattle.std.specs.Map.{lookup, keys_of}
 use Rattle.boki_model.specs.Maps.{has}

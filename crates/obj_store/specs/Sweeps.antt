@@ -1,12 +1,12 @@
 -- What a sweep is given, and what it does to the base of an object.
-use Rattle.std.specs.Prelude.{◌≡◌, ℕ, ◌&&◌, ◌||◌, option_map, Bool, true, false, cond, nat_le, nat_lt, List, [], ◌∷◌, ◌++◌, bytes_eq, Option, Some, None, is_some, IsTrue}
+use Rattle.std.specs.Prelude.{ℕ, ◌&&◌, ◌||◌, option_map, Bool, true, false, nat_le, nat_lt, List, [], ◌∷◌, ◌++◌, Option, Some, is_some, IsTrue}
 use Rattle.lb_base.specs.declared.value.Value.{Value}
 use Rattle.boki_types.specs.declared.body.Body.{Body}
 use Rattle.boki_types.specs.declared.store.Name.{Name}
 use Rattle.boki_types.specs.declared.store.Settled.{Settled}
 use Rattle.boki_model.specs.Live.{Live}
 use Rattle.boki_model.specs.Reads.{or_else}
-use Rattle.boki_model.specs.Writes.{Write, logged_write, write_at, with}
+use Rattle.boki_model.specs.Writes.{logged_write, write_at, with}
 use Rattle.obj_store.specs.Kept.{is_name, value_in}
 use Rattle.obj_store.specs.declared.objects.Passed.{Passed}
 

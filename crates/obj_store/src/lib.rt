@@ -19,6 +19,5 @@ mod store;
 mod tests;
 mod writes;
 
-
 pub use crate::answers::{Logged, Read};
 pub use crate::store::ObjStore;

@@ -92,7 +92,11 @@ fn push_some(passed: &mut Vec<Passed>, one: Option<Passed>) -> Result<(), Memory
 }
 
 /// The logged writes that have a value, each with a copy of it.
-pub fn copy_all_passed(names: &Names, alloc: Global, settled: &[Settled]) -> Result<Vec<Passed>, Memory>
+pub fn copy_all_passed(
+    names: &Names,
+    alloc: Global,
+    settled: &[Settled],
+) -> Result<Vec<Passed>, Memory>
     ensures { IfOk result (λ v. v.items ≡ passed_of names.now.entries settled.now) }
 {
     let mut passed = Vec::new(alloc);

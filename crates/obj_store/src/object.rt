@@ -58,7 +58,11 @@ impl Object {
         ensures { result ≡ count_of self.now }
     {
         let versions = self.versions.len() as u64;
-        if self.base.is_some() { versions + 1 } else { versions }
+        if self.base.is_some() {
+            versions + 1
+        } else {
+            versions
+        }
     }
 
     /// Whether no write is kept.

@@ -9,18 +9,24 @@ ghost use Rattle.obj_store.specs.Kept.{KeptObject, object_in, total};
 ghost use Rattle.obj_store.specs.Steps.{Widens, Puts, value_upto, value_before, value_at_floor, value_of_last};
 
 use crate::answers::Logged;
-use crate::names;
 use crate::names::Names;
 use crate::object::Object;
-use crate::objects;
 use crate::objects::Objects;
 use crate::writes::{Placed, later_value};
+use crate::{names, objects};
 use boki_types::Fenced;
 use lb_base::{Memory, Seqnum, Value};
 use std::alloc::Global;
 
 /// Puts a version of an object in. After `Memory` each object is as before.
-pub fn put_in(objects: &mut Objects, alloc: Global, key: &str, cursor: Seqnum, k: u64, value: &Value) -> Result<(), Memory>
+pub fn put_in(
+    objects: &mut Objects,
+    alloc: Global,
+    key: &str,
+    cursor: Seqnum,
+    k: u64,
+    value: &Value,
+) -> Result<(), Memory>
     ensures ok { Ascend (object_in key.now objects.old.entries).versions → OnOk result (Puts key.now (write_at cursor.0 k value.now) objects.old.entries objects.new.entries) }
     ensures err { OnErr result (Widens objects.old.entries objects.new.entries) }
 {
@@ -54,7 +60,11 @@ fn kept_upto<'a>(objects: &'a Objects, key: &str, last: u64) -> Option<&'a Place
 }
 
 // The value of the last of a write that is kept and a logged one.
-fn last_of<'a>(kept: Option<&'a Placed>, seq: Seqnum, logged: Option<&'a Value>) -> Option<&'a Value>
+fn last_of<'a>(
+    kept: Option<&'a Placed>,
+    seq: Seqnum,
+    logged: Option<&'a Value>,
+) -> Option<&'a Value>
     ensures { option_copied result ≡ value_of_last (option_copied kept.entry) seq.0 (option_copied logged.entry) }
 {
     match (kept, logged) {
@@ -66,7 +76,14 @@ fn last_of<'a>(kept: Option<&'a Placed>, seq: Seqnum, logged: Option<&'a Value>)
 
 /// The value of the last write of an object whose first number is at most `last`, among those that are kept and the logged one,
 /// where `last` isn't below the floor.
-pub fn last_upto<'a>(objects: &'a Objects, named: &'a Names, floor: Seqnum, key: &str, last: u64, logged: Option<&Logged<'a>>) -> Option<&'a Value>
+pub fn last_upto<'a>(
+    objects: &'a Objects,
+    named: &'a Names,
+    floor: Seqnum,
+    key: &str,
+    last: u64,
+    logged: Option<&Logged<'a>>,
+) -> Option<&'a Value>
     ensures { Ascend (object_in key.now objects.now.entries).versions → option_copied result ≡ value_upto floor.0 last (object_in key.now objects.now.entries) named.now.entries (option_map told (option_copied logged.entry)) }
 {
     let kept = kept_upto(objects, key, last);
@@ -77,11 +94,18 @@ pub fn last_upto<'a>(objects: &'a Objects, named: &'a Names, floor: Seqnum, key:
 }
 
 // A copy of the value of the last of a write that is kept and a logged one, which counts where it isn't below the floor.
-fn copy_last(kept: Option<&Placed>, floor: Seqnum, seq: Seqnum, logged: Option<&Value>) -> Result<Fenced, Memory>
+fn copy_last(
+    kept: Option<&Placed>,
+    floor: Seqnum,
+    seq: Seqnum,
+    logged: Option<&Value>,
+) -> Result<Fenced, Memory>
     ensures { IfOk result (λ a. a ≡ found (value_of_last (option_copied kept.entry) seq.0 (cond (nat_lt seq.0 floor.0) None (option_copied logged.entry)))) }
 {
     match (kept, logged) {
-        (Some(write), Some(value)) if seq >= floor => Ok(Fenced::Found(later_value(write, seq, value).clone()?)),
+        (Some(write), Some(value)) if seq >= floor => Ok(Fenced::Found(later_value(
+            write, seq, value,
+        ).clone()?)),
         (None, Some(value)) if seq >= floor => Ok(Fenced::Found(value.clone()?)),
         (Some(write), _) => Ok(Fenced::Found(write.value().clone()?)),
         (None, _) => Ok(Fenced::Missing),
@@ -90,7 +114,14 @@ fn copy_last(kept: Option<&Placed>, floor: Seqnum, seq: Seqnum, logged: Option<&
 
 /// A copy of the value of the last write of an object whose first number is below `at`, among those that are kept and the logged
 /// one, where `at` isn't below the floor.
-pub fn copy_before(objects: &Objects, named: &Names, floor: Seqnum, key: &str, at: Seqnum, logged: Option<&Logged<'_>>) -> Result<Fenced, Memory>
+pub fn copy_before(
+    objects: &Objects,
+    named: &Names,
+    floor: Seqnum,
+    key: &str,
+    at: Seqnum,
+    logged: Option<&Logged<'_>>,
+) -> Result<Fenced, Memory>
     ensures { Ascend (object_in key.now objects.now.entries).versions → IfOk result (λ a. a ≡ value_before floor.0 at.0 (object_in key.now objects.now.entries) named.now.entries (option_map told (option_copied logged.entry))) }
 {
     if at.0 == 0 {

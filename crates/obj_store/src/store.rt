@@ -12,14 +12,10 @@ ghost use Rattle.obj_store.specs.StandsFor.{StandsFor, IsUnchanged};
 ghost use Rattle.obj_store.specs.Sweeps.{AllHaveValues, logged_between};
 
 use crate::answers::{Logged, Read};
-use crate::every;
-use crate::names;
 use crate::names::Names;
 use crate::object::{Case, standing};
-use crate::objects;
 use crate::objects::Objects;
-use crate::sorted;
-use crate::steps;
+use crate::{every, names, objects, sorted, steps};
 use boki_types::{Fenced, Name, Named, Put, Settled};
 use lb_base::{List, Memory, Seqnum, Value, Words};
 use std::alloc::Global;
@@ -90,7 +86,13 @@ impl ObjStore {
     /// version is put in, and the answer is Done.
     ///
     /// After `Memory` the store is unchanged. Gone, Late, and a version that is there take no memory.
-    pub fn put_at(&mut self, key: &str, cursor: Seqnum, k: u64, value: &Value) -> Result<Put, Memory>
+    pub fn put_at(
+        &mut self,
+        key: &str,
+        cursor: Seqnum,
+        k: u64,
+        value: &Value,
+    ) -> Result<Put, Memory>
         requires { 1 ≤ k }
         ensures ok { IfOk result (λ a. (m : Store) (records : List (Live Body)) → StandsFor self.old m records → (a ≡ model.put_at key.now cursor.0 k m) × StandsFor self.new (model.after_put key.now cursor.0 k value.now m) records) }
         ensures err { OnErr result (IsUnchanged self.old self.new) }
@@ -115,14 +117,26 @@ impl ObjStore {
     /// and the logged one, or Missing where there is none. Gone comes exactly where the cursor is below the floor.
     ///
     /// It needs to be told the last live logged write of the object with a seqnum at most the cursor. It takes no memory.
-    pub fn read_free<'a>(&'a self, key: &str, cursor: Seqnum, logged: Option<&Logged<'a>>) -> Read<'a>
+    pub fn read_free<'a>(
+        &'a self,
+        key: &str,
+        cursor: Seqnum,
+        logged: Option<&Logged<'a>>,
+    ) -> Read<'a>
         ensures read { (m : Store) (records : List (Live Body)) → StandsFor self.now m records → IsTold key.now (suc cursor.0) self.now records (option_copied logged.entry) → shown result ≡ model.read_free key.now cursor.0 m records }
         ensures gone { cursor.0 < self.now.floor → result ≡ Read.Gone }
     {
         if cursor.0 < self.floor.0 {
             return Read::Gone;
         }
-        match steps::last_upto(&self.objects, &self.named, self.floor, key, cursor.0, logged) {
+        match steps::last_upto(
+            &self.objects,
+            &self.named,
+            self.floor,
+            key,
+            cursor.0,
+            logged,
+        ) {
             Some(value) => Read::Found(value),
             None => Read::Missing,
         }
@@ -134,7 +148,12 @@ impl ObjStore {
     ///
     /// It needs to be told the last live logged write of the object with a seqnum below the marker. After `Memory` the store is
     /// unchanged.
-    pub fn read_fenced(&mut self, key: &str, at: Seqnum, logged: Option<&Logged<'_>>) -> Result<Fenced, Memory>
+    pub fn read_fenced(
+        &mut self,
+        key: &str,
+        at: Seqnum,
+        logged: Option<&Logged<'_>>,
+    ) -> Result<Fenced, Memory>
         ensures ok { IfOk result (λ a. (m : Store) (records : List (Live Body)) → StandsFor self.old m records → IsTold key.now at.0 self.old records (option_copied logged.entry) → (a ≡ model.read_fenced key.now at.0 m records) × StandsFor self.new (model.after_fenced (key.now ∷ []) at.0 m) records) }
         ensures err { OnErr result (IsUnchanged self.old self.new) }
     {

@@ -40,7 +40,14 @@ fn a_fenced_read_makes_earlier_writes_late(rt: HostRuntime) -> Result<(), Fail> 
 }
 
 // Versions that are put in out of order: (cursor, k, value).
-const WRITES: [(u64, u64, i64); 6] = [(7, 1, 71), (3, 2, 32), (3, 1, 31), (9, 1, 91), (5, 1, 51), (7, 2, 72)];
+const WRITES: [(u64, u64, i64); 6] = [
+    (7, 1, 71),
+    (3, 2, 32),
+    (3, 1, 31),
+    (9, 1, 91),
+    (5, 1, 51),
+    (7, 2, 72),
+];
 
 // The value of the last write at or below a cursor, by a look at each.
 fn scanned(cursor: u64) -> Option<i64> {
@@ -67,7 +74,10 @@ fn assert_reads(rt: &impl Abort, store: &ObjStore, from: u64) {
 fn reads_and_sweeps_agree_with_a_scan(rt: HostRuntime) -> Result<(), Fail> {
     let mut store = ObjStore::new(rt.alloc(), &[])?;
     for (cursor, k, value) in WRITES {
-        assert_eq!(rt; store.put_at("x", Seqnum(cursor), k, &Value::Int(value))?, Put::Done);
+        assert_eq!(rt;
+            store.put_at("x", Seqnum(cursor), k, &Value::Int(value))?,
+            Put::Done
+        );
     }
     for floor in [0u64, 4, 7, 8, 11] {
         store.sweep(Seqnum(floor), &[])?;
@@ -87,7 +97,10 @@ fn a_settled_write_becomes_the_base(rt: HostRuntime) -> Result<(), Fail> {
         path: Path::request(1).unwrap(),
         place: 1,
     };
-    assert_eq!(rt; store.put_named(name, Seqnum(2), &Value::Int(4))?, Named::Done);
+    assert_eq!(rt;
+        store.put_named(name, Seqnum(2), &Value::Int(4))?,
+        Named::Done
+    );
     let logged = Logged {
         seq: Seqnum(4),
         name,
@@ -96,6 +109,12 @@ fn a_settled_write_becomes_the_base(rt: HostRuntime) -> Result<(), Fail> {
     assert_eq!(rt; read(&store, "x", 3, None), Some(1));
     assert_eq!(rt; read(&store, "x", 4, Some(&logged)), Some(4));
     assert_eq!(rt; store.held(), 2);
+    assert_eq!(rt; store.put_at("b", Seqnum(7), 1, &Value::Int(7))?, Put::Done);
+    assert_eq!(rt; store.read_fenced("a", Seqnum(8), None)?, Fenced::Missing);
+    let keys = store.keys()?;
+    assert_eq!(rt; keys.len(), 2);
+    assert!(rt; keys.get(0).is_some_and(|key| key.is("b")));
+    assert!(rt; keys.get(1).is_some_and(|key| key.is("x")));
     assert!(rt; store.raise_group(&[key.clone()?], Seqnum(6))?);
     let settled = [Settled {
         key,
@@ -104,7 +123,7 @@ fn a_settled_write_becomes_the_base(rt: HostRuntime) -> Result<(), Fail> {
         here: None,
     }];
     store.sweep(Seqnum(5), &settled)?;
-    assert_eq!(rt; store.held(), 1);
+    assert_eq!(rt; store.held(), 2);
     assert_eq!(rt; store.fence("x"), Seqnum(6));
     assert_eq!(rt; read(&store, "x", 5, None), Some(4));
     assert_eq!(rt; read(&store, "x", 5, Some(&logged)), Some(4));

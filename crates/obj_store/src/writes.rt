@@ -156,5 +156,9 @@ pub fn count_at(writes: &[Placed], first: u64) -> usize
 pub fn later_value<'a>(write: &'a Placed, seq: Seqnum, logged: &'a Value) -> &'a Value
     ensures { result.now ≡ last_value write.now seq.0 logged.now }
 {
-    if write.is_before(seq.0, 0) { logged } else { write.value() }
+    if write.is_before(seq.0, 0) {
+        logged
+    } else {
+        write.value()
+    }
 }

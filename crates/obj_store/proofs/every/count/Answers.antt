@@ -1,4 +1,4 @@
-use Rattle.std.proofs.Common.{◌≡◌, ◌+◌, ◌<◌, ◌^◌, arith, rules}
+use Rattle.std.proofs.Common.{arith}
 use Rattle.obj_store.specs.Kept.{count_of}
 use Rattle.obj_store.proofs.Fronts.{sum_step, sum_to_end}
 use Rattle.obj_store.proofs.every.count.Goals as goal

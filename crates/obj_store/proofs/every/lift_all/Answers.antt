@@ -1,9 +1,8 @@
-use Rattle.std.proofs.Common.{◌≡◌, ◌∙◌, ℕ, List, true, length, get_or, sym, ap, subst, arith, rules}
+use Rattle.std.proofs.Common.{◌≡◌, ◌∙◌, ℕ, List, length, get_or, ap, rules}
 use Rattle.std.proofs.lemmas.Iterator.Consumers.{YieldsList-turn}
 use Rattle.std.proofs.lemmas.Iterator.Adapters.{YieldsList-from_vec}
 use Rattle.obj_store.specs.declared.objects.Passed.{Passed}
 use Rattle.obj_store.specs.Kept.{has_key}
-use Rattle.obj_store.specs.Steps.{has_passed}
 use Rattle.obj_store.proofs.Entries.{has_keys}
 use Rattle.obj_store.proofs.Passing.{passed_at_place, lifts_more}
 use Rattle.obj_store.proofs.every.lift_all.Goals as goal

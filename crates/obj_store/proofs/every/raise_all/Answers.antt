@@ -1,4 +1,4 @@
-use Rattle.std.proofs.Common.{◌≡◌, ◌∙◌, ℕ, List, true, sym, ap, subst, arith}
+use Rattle.std.proofs.Common.{◌∙◌, ℕ, List, ap, arith}
 use Rattle.obj_store.specs.Kept.{has_key}
 use Rattle.obj_store.proofs.Entries.{has_keys}
 use Rattle.obj_store.proofs.Passing.{has_at_place, raises_more}

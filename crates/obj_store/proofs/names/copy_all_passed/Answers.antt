@@ -1,6 +1,4 @@
-use Rattle.std.proofs.Common.{◌≡◌, ◌∙◌, ◌++◌, [], List, ap, sym, arith}
-use Rattle.boki_model.specs.Writes.{with}
-use Rattle.obj_store.specs.declared.objects.Passed.{Passed}
+use Rattle.std.proofs.Common.{arith}
 use Rattle.obj_store.proofs.Passing.{passed_of_more}
 use Rattle.obj_store.proofs.names.copy_all_passed.Goals as goal
 

@@ -1,4 +1,4 @@
-use Rattle.std.proofs.Common.{◌≡◌, arith}
+use Rattle.std.proofs.Common.{arith}
 use Rattle.obj_store.proofs.Passing.{removed_more}
 use Rattle.obj_store.proofs.names.remove_all.Goals as goal
 

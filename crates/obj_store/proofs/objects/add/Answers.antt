@@ -1,6 +1,4 @@
-use Rattle.std.proofs.Common.{◌≡◌, rules, ap, sym, ◌∙◌}
-use Rattle.obj_store.specs.Kept.{blank}
-use Rattle.indexmap.specs.IndexMap.{insert_entry}
+use Rattle.std.proofs.Common.{rules}
 use Rattle.obj_store.proofs.Entries.{widened}
 use Rattle.obj_store.proofs.objects.add.Goals as goal
 

@@ -1,4 +1,4 @@
-use Rattle.std.proofs.Common.{◌≡◌, ◌∙◌, ap, ℕ, List, true, subst, arith}
+use Rattle.std.proofs.Common.{◌≡◌, ◌∙◌, ℕ, List, true, subst, arith}
 use Rattle.obj_store.specs.Kept.{has_key}
 use Rattle.obj_store.proofs.Entries.{widens_twice}
 use Rattle.obj_store.proofs.Passing.{has_more}

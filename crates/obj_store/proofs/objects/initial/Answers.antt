@@ -1,4 +1,4 @@
-use Rattle.std.proofs.Common.{◌≡◌, ◌∙◌, ℕ, List, ap, sym, arith, rules}
+use Rattle.std.proofs.Common.{◌≡◌, ◌∙◌, ℕ, List, ap, arith, rules}
 use Rattle.lb_base.specs.declared.value.Value.{Value}
 use Rattle.obj_store.specs.Steps.{opened}
 use Rattle.obj_store.proofs.Opening.{opens_more}

@@ -1,4 +1,4 @@
-use Rattle.std.proofs.Common.{◌≡◌, take, bytes_eq}
+use Rattle.std.proofs.Common.{take, bytes_eq}
 use Rattle.std.specs.List.{IsDistinct}
 use Rattle.std.specs.Map.{keys_of}
 use Rattle.obj_store.specs.Steps.{Opens}

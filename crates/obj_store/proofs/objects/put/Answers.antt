@@ -18,7 +18,7 @@ returns-in_err-put-clause-err c =
     let is = sym c.get_mut.ensures.value ∙ ap option_copied_mut c.in-Some.is in
     let same : c.put.new.self ≡ c.in-Some.object.now = search rules in
     let w : Widens c.args.objects.now.entries (c.get_mut.follows.lender c.put.new.self).entries =
-      unchanged c.args.key.now (λ (o : KeptObject). o) c.args.objects.now.entries _
-      (change_is c.args.key.now (λ (o : KeptObject). o) c.args.objects.now.entries _ c.in-Some.object.now c.put.new.self is same (c.get_mut.follows.holds c.put.new.self).0)
-      refl in
+    unchanged c.args.key.now (λ (o : KeptObject). o) c.args.objects.now.entries _
+    (change_is c.args.key.now (λ (o : KeptObject). o) c.args.objects.now.entries _ c.in-Some.object.now c.put.new.self is same (c.get_mut.follows.holds c.put.new.self).0)
+    refl in
     search rules

@@ -1,5 +1,5 @@
-use Rattle.std.proofs.Common.{◌≡◌, ◌∙◌, [], length, take, ap, sym, arith}
-use Rattle.obj_store.specs.Keys.{with_key, with_keys}
+use Rattle.std.proofs.Common.{◌∙◌, [], ap, sym, arith}
+use Rattle.obj_store.specs.Keys.{with_key}
 use Rattle.obj_store.proofs.Fronts.{some_entry}
 use Rattle.obj_store.proofs.KeyLists.{with_keys_more}
 use Rattle.obj_store.proofs.sorted.sorted_keys.Goals as goal

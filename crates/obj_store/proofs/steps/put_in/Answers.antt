@@ -1,6 +1,5 @@
-use Rattle.std.proofs.Common.{◌≡◌, ◌∙◌, ℕ, ap, sym, subst, rules}
-use Rattle.lb_base.specs.declared.value.Value.{Value}
-use Rattle.boki_model.specs.Writes.{Write, write_at}
+use Rattle.std.proofs.Common.{◌≡◌, ◌∙◌, ap, sym, subst, rules}
+use Rattle.boki_model.specs.Writes.{write_at}
 use Rattle.obj_store.specs.Ascending.{Ascend}
 use Rattle.obj_store.specs.Kept.{KeptObject}
 use Rattle.obj_store.proofs.Passing.{puts_is}

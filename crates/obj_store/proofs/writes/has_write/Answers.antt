@@ -1,5 +1,4 @@
 use Rattle.std.proofs.Common.{◌≡◌, ◌∙◌, sym, ap, slice_get, Some, None, option_copied}
-use Rattle.obj_store.specs.Ascending.{before_count}
 use Rattle.obj_store.proofs.InOrder.{is_found, found_at, found_none, found_some}
 use Rattle.obj_store.proofs.writes.has_write.Goals as goal
 

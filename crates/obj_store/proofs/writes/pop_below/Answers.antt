@@ -1,5 +1,4 @@
-use Rattle.std.proofs.Common.{◌≡◌, ◌∙◌, ◌-◌, ◌<◌, Some, length, sym, ap, subst, arith}
-use Rattle.boki_model.specs.Writes.{Write}
+use Rattle.std.proofs.Common.{◌∙◌, ◌-◌, ◌<◌, length, sym, ap, subst, arith}
 use Rattle.obj_store.specs.Ascending.{Ascend, not_below, before_count}
 use Rattle.obj_store.proofs.InOrder.{before, before_is, last_is, slice_get_at, filter_removed}
 use Rattle.obj_store.proofs.writes.pop_below.Goals as goal

@@ -12,6 +12,6 @@ returns-clause-ok c = λ up.
     let same : c.args.self.now.versions ≡ items = ap (λ (o : KeptObject). o.versions) (sym c.self.view_is) in
     let place = c.place_in-place.ensures.place (subst Ascend (same ∙ sym c.as_slice.ensures.value) up) in
     let put : c.insert.new.self.items ≡ put_in w items =
-      c.in_ok-insert.ensures.items ∙ ap (λ n. insert items n w) (place ∙ ap (before_count w.first w.second) c.as_slice.ensures.value) ∙ insert_is w items in
+    c.in_ok-insert.ensures.items ∙ ap (λ n. insert items n w) (place ∙ ap (before_count w.first w.second) c.as_slice.ensures.value) ∙ insert_is w items in
     ap (λ (l : List Write). let o : KeptObject = record { base = c.self.inside.base; versions = l; fence = c.self.inside.fence } in o) put
     ∙ ap (λ (o : KeptObject). let p : KeptObject = record o { versions = put_in w o.versions } in p) c.self.view_is

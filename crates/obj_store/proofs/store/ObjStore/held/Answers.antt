@@ -1,4 +1,4 @@
-use Rattle.std.proofs.Common.{◌∙◌, ap, sym}
+use Rattle.std.proofs.Common.{◌∙◌, ap}
 use Rattle.obj_store.specs.Kept.{Kept}
 use Rattle.obj_store.proofs.KeyCount.{held_is}
 use Rattle.obj_store.proofs.store.ObjStore.held.Goals as goal

@@ -1,4 +1,4 @@
-use Rattle.std.proofs.Common.{◌≡◌, ◌∙◌, ap, sym, subst}
+use Rattle.std.proofs.Common.{◌∙◌, sym, subst}
 use Rattle.obj_store.specs.Kept.{Kept}
 use Rattle.obj_store.specs.StandsFor.{StandsFor}
 use Rattle.obj_store.proofs.KeyLists.{keys_are}

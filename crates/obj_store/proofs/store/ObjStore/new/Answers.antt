@@ -1,4 +1,4 @@
-use Rattle.std.proofs.Common.{◌≡◌, List, ℕ, [], length, sym, ap, subst, rules}
+use Rattle.std.proofs.Common.{List, ℕ, length, sym, subst}
 use Rattle.lb_base.specs.declared.value.Value.{Value}
 use Rattle.boki_model.specs.Writes.{opening_store}
 use Rattle.obj_store.specs.Kept.{Kept}

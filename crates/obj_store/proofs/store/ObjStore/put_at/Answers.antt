@@ -1,4 +1,4 @@
-use Rattle.std.proofs.Common.{◌≡◌, ◌∙◌, ◌≤◌, ◌+◌, sym, ap, subst, arith, rules}
+use Rattle.std.proofs.Common.{◌≡◌, ◌∙◌, ◌≤◌, ◌+◌, sym, subst, arith, rules}
 use Rattle.boki_model.specs.Writes.{after_put}
 use Rattle.obj_store.specs.Kept.{Kept}
 use Rattle.obj_store.specs.StandsFor.{StandsFor}

@@ -1,10 +1,8 @@
-use Rattle.std.proofs.Common.{◌≡◌, ◌∙◌, ◌≤◌, ◌+◌, ltb, is_some, None, true, false, sym, ap, subst, arith, rules}
-use Rattle.std.specs.Option.{option_copied}
+use Rattle.std.proofs.Common.{◌≡◌, ◌+◌, ltb, is_some, None, false, sym, ap, subst, arith, rules}
 use Rattle.std.proofs.lemmas.Bool.Decides.{nat_tests}
-use Rattle.boki_model.specs.Writes.{after_named}
 use Rattle.obj_store.specs.Kept.{Kept, value_in}
 use Rattle.obj_store.specs.StandsFor.{StandsFor}
-use Rattle.obj_store.proofs.Fences.{named_there, named_new}
+use Rattle.obj_store.proofs.Fences.{named_new}
 use Rattle.obj_store.proofs.store.ObjStore.put_named.Goals as goal
 
 pub returns-clause-ok : goal.returns-clause-ok

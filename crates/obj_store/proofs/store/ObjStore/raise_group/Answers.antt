@@ -1,7 +1,6 @@
-use Rattle.std.proofs.Common.{◌≡◌, ◌∙◌, ◌≤◌, ltb, not, cond, true, false, sym, ap, subst, arith}
+use Rattle.std.proofs.Common.{◌≡◌, ◌∙◌, ltb, not, cond, false, sym, ap, subst, arith}
 use Rattle.std.proofs.lemmas.Bool.Decides.{nat_tests}
 use Rattle.std.specs.List.{IsDistinct}
-use Rattle.std.specs.Map.{keys_of}
 use Rattle.std.specs.Str.{bytes_eq}
 use Rattle.boki_model.specs.Maps.{has}
 use Rattle.obj_store.specs.Kept.{Kept, KeptObject}
@@ -18,6 +17,6 @@ returns-clause-ok c = λ m records stands.
     let up = c.raise_all.ensures in (
       ap not (sym low),
       fences_raised _ m records S c.args.keys.now c.args.at.0 c.raise_all.new.objects.entries low
-      (λ k. up.objects k ∙ ap (λ (o : KeptObject). cond (has k c.args.keys.now) (raised_to c.args.at.0 o) o) (wide.objects k))
-      (up.total ∙ wide.total) (λ d. subst (IsDistinct bytes_eq) (sym up.keys) (wide.distinct d)),
+          (λ k. up.objects k ∙ ap (λ (o : KeptObject). cond (has k c.args.keys.now) (raised_to c.args.at.0 o) o) (wide.objects k))
+          (up.total ∙ wide.total) (λ d. subst (IsDistinct bytes_eq) (sym up.keys) (wide.distinct d)),
     )

@@ -1,14 +1,9 @@
-use Rattle.std.proofs.Common.{◌≡◌, ◌∙◌, ◌≤◌, ◌+◌, ltb, not, cond, ◌||◌, Bool, true, false, List, [], ◌∷◌, ℕ, sym, ap, subst, refl, arith}
+use Rattle.std.proofs.Common.{◌≡◌, ◌∙◌, ◌≤◌, ltb, false, sym, subst, arith}
 use Rattle.std.proofs.lemmas.Bool.Decides.{nat_tests}
-use Rattle.std.specs.List.{IsDistinct}
-use Rattle.std.specs.Map.{keys_of}
 use Rattle.std.specs.Option.{option_copied}
-use Rattle.std.specs.Str.{bytes_eq}
-use Rattle.boki_model.specs.Maps.{has}
 use Rattle.obj_store.specs.Answers.{IsTold}
-use Rattle.obj_store.specs.Kept.{Kept, KeptObject, object_in, total}
+use Rattle.obj_store.specs.Kept.{Kept}
 use Rattle.obj_store.specs.StandsFor.{StandsFor}
-use Rattle.obj_store.specs.Steps.{Widens, Changes, raised_to}
 use Rattle.obj_store.proofs.Answering.{read_fenced_is}
 use Rattle.obj_store.proofs.Fences.{one_raised}
 use Rattle.obj_store.proofs.Puts.{up}

@@ -1,4 +1,4 @@
-use Rattle.std.proofs.Common.{◌≡◌, ◌∙◌, ◌≤◌, suc, sym, ap, subst, arith, rules}
+use Rattle.std.proofs.Common.{◌∙◌, ◌≤◌, suc, sym, ap, subst, arith}
 use Rattle.std.specs.Option.{option_copied}
 use Rattle.boki_model.specs.Writes.{found}
 use Rattle.obj_store.specs.Kept.{Kept}

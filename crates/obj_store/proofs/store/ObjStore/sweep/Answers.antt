@@ -1,10 +1,9 @@
-use Rattle.std.proofs.Common.{◌≡◌, ◌∙◌, ◌≤◌, ◌<◌, ◌+◌, ◌^◌, ℕ, List, true, length, sym, ap, subst, arith, rules}
-use Rattle.boki_types.specs.declared.store.Settled.{Settled}
+use Rattle.std.proofs.Common.{◌≡◌, ◌∙◌, ◌≤◌, ◌<◌, ◌+◌, ◌^◌, ℕ, List, length, sym, ap, subst, arith, rules}
 use Rattle.obj_store.specs.declared.objects.Passed.{Passed}
 use Rattle.obj_store.specs.Kept.{Kept, KeptObject, total}
 use Rattle.obj_store.specs.StandsFor.{StandsFor}
 use Rattle.obj_store.specs.Steps.{Lifts, settled_all, has_passed}
-use Rattle.obj_store.specs.Sweeps.{AllHaveValues, passed_of}
+use Rattle.obj_store.specs.Sweeps.{AllHaveValues}
 use Rattle.obj_store.proofs.Entries.{has_keys}
 use Rattle.obj_store.proofs.Puts.{all_up}
 use Rattle.obj_store.proofs.Swept.{swept_stands}
@@ -24,7 +23,7 @@ returns-clause-ok c = λ m records stands is valued.
     let wide = c.in_ok-ensure_passed.ensures.same in
     let settles = c.settle_all.ensures.settled (all_up _ m records S c.ensure_passed.new.objects.entries wide) in
     let lifts = subst (λ (ps : List Passed). Lifts ps (settled_all c.args.floor.0 c.ensure_passed.new.objects.entries) c.lift_all.new.objects.entries) c.in_ok-passed.ensures
-      (subst (λ (es : List (List ℕ × KeptObject)). Lifts c.in_ok-passed.passed.items es c.lift_all.new.objects.entries) settles c.lift_all.ensures) in
+    (subst (λ (es : List (List ℕ × KeptObject)). Lifts c.in_ok-passed.passed.items es c.lift_all.new.objects.entries) settles c.lift_all.ensures) in
     let small : c.self.inside.held + length c.args.settled.now < 2 ^ 64 = (let e : c.in_ok-ok_or.field-0 ≡ c.self.inside.held + length c.args.settled.now = search rules in omega arith) in
     swept_stands _ m records S c.args.floor.0 le W c.args.settled.now c.ensure_passed.new.objects.entries c.lift_all.new.objects.entries c.remove_all.new.names.entries c.saturating_add-self-inside.result
     is wide lifts c.remove_all.ensures.finds c.remove_all.ensures.distinct c.remove_all.ensures.len small

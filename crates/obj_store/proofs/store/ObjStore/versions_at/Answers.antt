@@ -1,4 +1,4 @@
-use Rattle.std.proofs.Common.{◌≡◌, ◌∙◌, ◌<◌, ◌^◌, sum_by, sym, subst, arith}
+use Rattle.std.proofs.Common.{◌∙◌, ◌<◌, ◌^◌, sum_by, sym, subst, arith}
 use Rattle.std.specs.Map.{values_of}
 use Rattle.obj_store.specs.Kept.{Kept}
 use Rattle.obj_store.specs.StandsFor.{StandsFor}
