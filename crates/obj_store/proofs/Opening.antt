@@ -1,13 +1,15 @@
 -- The objects of a store with initial objects.
 use Rattle.std.proofs.Common.{◌≡◌, ℕ, zero, suc, ◌+◌, ◌<◌, Bool, true, false, cond, List, [], ◌∷◌, length, take, get_or, bytes_eq, Option, Some, None, option_map, refl, sym, ap, ◌∙◌, arith}
-use Rattle.std.specs.List.{IsDistinct}
+use Rattle.std.specs.List.{IsDistinct, AllByRecursion}
 use Rattle.std.specs.Map.{lookup, keys_of}
 use Rattle.std.specs.Cmp.Lexicographic.{nat_list_eq_equiv}
-use Rattle.std.proofs.lemmas.Map.Keys.{apart_from_distinct, IsDistinct-tail}
+use Rattle.std.proofs.lemmas.Map.Keys.{apart_from_distinct, IsDistinct-tail, IsDistinct-cons, IsDistinct-from_apart}
+use Rattle.std.proofs.lemmas.Map.{NonePasses, none_passes_from_lookup}
 use Rattle.indexmap.specs.IndexMap.{insert_entry}
 use Rattle.lb_base.specs.declared.value.Value.{Value}
 use Rattle.boki_model.specs.Reads.{or_else}
 use Rattle.obj_store.specs.Kept.{KeptObject, total, count_of}
+use Rattle.obj_store.specs.StandsFor.{KeysDiffer}
 use Rattle.obj_store.specs.Steps.{Opens, opened}
 use Rattle.obj_store.proofs.Entries.{same_key, absent_adds}
 
@@ -19,6 +21,14 @@ key_at (v ∷ vs) (suc i) d lt = key_at vs i d (omega arith)
 keys_length : (vs : List (List ℕ × Value)) → length (keys_of vs) ≡ length vs
 keys_length [] = refl
 keys_length (v ∷ vs) = ap suc (keys_length vs)
+
+pub distinct_keys : (vs : List (List ℕ × Value)) → KeysDiffer vs → IsDistinct bytes_eq (keys_of vs)
+distinct_keys [] h = IsDistinct-from_apart bytes_eq [] (λ i j d lt end. absurd (let z : ⊥ = omega arith in z))
+distinct_keys (v ∷ vs) h = IsDistinct-cons bytes_eq v.0 (keys_of vs) (passes vs (none_passes_from_lookup (bytes_eq v.0) vs h.0)) (distinct_keys vs h.1)
+  where
+    passes : (es : List (List ℕ × Value)) → NonePasses (bytes_eq v.0) es → AllByRecursion (λ y. bytes_eq v.0 y ≡ false) (keys_of es)
+    passes [] h = tt
+    passes (e ∷ es) h = (h.0, passes es h.1)
 
 not_before : (vs : List (List ℕ × Value)) (i : ℕ) (d : List ℕ × Value) → IsDistinct bytes_eq (keys_of vs) → i < length vs → lookup (bytes_eq (get_or vs i d).0) (take i vs) ≡ None
 not_before [] i d distinct lt = absurd (let h : ⊥ = omega arith in h)

@@ -1,7 +1,7 @@
 -- For which store of the definitions, one that never drops a value, an object store stands.
 use Rattle.std.specs.Prelude.{◌≡◌, ℕ, ◌+◌, ◌<◌, ◌≤◌, Bool, true, cond, nat_le, nat_lt, List, [], ◌∷◌, length, filter, bytes_eq, Option, Some, None, is_some, IsTrue, ◌⊎◌}
 use Rattle.std.specs.List.{IsDistinct}
-use Rattle.std.specs.Map.{keys_of}
+use Rattle.std.specs.Map.{lookup, keys_of}
 use Rattle.std.specs.Option.{IsSomeAnd}
 use Rattle.lb_base.specs.declared.value.Value.{Value}
 use Rattle.boki_types.specs.declared.body.Body.{Body}
@@ -38,6 +38,11 @@ kept_of key m records = record {
 -- what is kept under a name: nothing where it is that of a live logged write below the floor
 abbrev pub kept_under : Name → Store → List (Live Body) → Option Value
 kept_under name m records = cond (is_settled name m.floor records) None (value_of name m.named)
+
+-- no key stands twice among initial objects
+abbrev pub KeysDiffer : List (List ℕ × Value) → Type 0
+KeysDiffer [] = Unit {0}
+KeysDiffer (x ∷ xs) = (lookup (bytes_eq x.0) xs ≡ None) × KeysDiffer xs
 
 -- no name has two values
 abbrev pub NamesDiffer : List Stored → Type 0

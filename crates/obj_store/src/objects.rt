@@ -8,6 +8,7 @@ ghost use Rattle.boki_model.specs.Writes.{later};
 ghost use Rattle.indexmap.specs.IndexMap.{set_value_at};
 ghost use Rattle.obj_store.specs.Ascending.{Ascend};
 ghost use Rattle.obj_store.specs.Kept.{KeptObject, object_in, has_key, total};
+ghost use Rattle.obj_store.specs.StandsFor.{KeysDiffer};
 ghost use Rattle.obj_store.specs.Steps.{Widens, Changes, Opens, raised_to, with_version, settled_at, lifted_one, lifted, has_passed, count_in};
 
 use crate::key::Key;
@@ -112,7 +113,7 @@ pub fn lift(objects: &mut Objects, key: &str, write: Placed)
 
 /// The objects of a store that has these initial objects, whose keys differ.
 pub fn initial(alloc: Global, values: &[(Words, Value)]) -> Result<Objects, Memory>
-    ensures { IsDistinct bytes_eq (keys_of values.now) → IfOk result (λ m. Opens values.now m.entries) }
+    ensures { KeysDiffer values.now → IfOk result (λ m. Opens values.now m.entries) }
 {
     let mut objects = IndexMap::new(alloc);
     for (key, value) in values {

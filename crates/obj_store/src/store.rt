@@ -8,7 +8,7 @@ ghost use Rattle.boki_model.specs.Writes as model;
 ghost use Rattle.boki_model.specs.Writes.{Store};
 ghost use Rattle.obj_store.specs.Answers.{IsTold, shown};
 ghost use Rattle.obj_store.specs.Keys.{keys_in};
-ghost use Rattle.obj_store.specs.StandsFor.{StandsFor, IsUnchanged};
+ghost use Rattle.obj_store.specs.StandsFor.{StandsFor, IsUnchanged, KeysDiffer};
 ghost use Rattle.obj_store.specs.Sweeps.{AllHaveValues, logged_between};
 
 use crate::answers::{Logged, Read};
@@ -49,7 +49,7 @@ impl Model for ObjStore {
 impl ObjStore {
     /// The store of these initial objects, whose keys differ, with nothing stored under a name and the floor 0; or `Memory`.
     pub fn new(alloc: Global, objects: &[(Words, Value)]) -> Result<ObjStore, Memory>
-        requires { IsDistinct bytes_eq (keys_of objects.now) }
+        requires { KeysDiffer objects.now }
         ensures { IfOk result (λ s. (end : ℕ) (records : List (Live Body)) → FallBelow end records → StandsFor s (model.opening_store objects.now) records) }
     {
         Ok(ObjStore {
