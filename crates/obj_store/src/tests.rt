@@ -7,34 +7,72 @@ use std::alloc::Global;
 use std::process::Abort;
 use std::test::Fail;
 
+fn name() -> Name {
+    Name {
+        path: Path::request(1).unwrap(),
+        place: 1,
+    }
+}
+
+// The logged write of the value that is kept under the name.
+fn logged() -> Logged<'static> {
+    Logged {
+        seq: Seqnum(4),
+        name: name(),
+        here: None,
+    }
+}
+
 // What a free read answers, of integers alone.
-fn read(store: &ObjStore, key: &str, cursor: u64, logged: Option<&Logged<'_>>) -> Option<i64> {
-    match store.read_free(key, Seqnum(cursor), logged) {
+fn read(store: &ObjStore, cursor: u64, logged: Option<&Logged<'_>>) -> Option<i64> {
+    match store.read_free("x", Seqnum(cursor), logged) {
         Read::Found(Value::Int(n)) => Some(*n),
         _ => None,
     }
 }
 
+// Puts the first free write since a cursor in.
+fn put(store: &mut ObjStore, cursor: u64) -> Result<Put, Memory> {
+    store.put_at("x", Seqnum(cursor), 1, &Value::Int(9))
+}
+
+// A store with a fence at 10 and a version at it.
+fn fenced(alloc: Global) -> Result<ObjStore, Memory> {
+    let mut store = ObjStore::new(alloc, &[])?;
+    store.read_fenced("x", Seqnum(10), None)?;
+    put(&mut store, 10)?;
+    Ok(store)
+}
+
 #[test]
 fn a_fenced_read_makes_earlier_writes_late(rt: HostRuntime) -> Result<(), Fail> {
     let mut store = ObjStore::new(rt.alloc(), &[])?;
-    let nine = Value::Int(9);
-    assert_eq!(rt; store.read_fenced("x", Seqnum(10), None)?, Fenced::Missing);
+    let answer = store.read_fenced("x", Seqnum(10), None)?;
+    assert_eq!(rt; answer, Fenced::Missing);
     assert_eq!(rt; store.fence("x"), Seqnum(10));
-    assert_eq!(rt; store.put_at("x", Seqnum(5), 1, &nine)?, Put::Late);
-    assert_eq!(rt; store.put_at("x", Seqnum(10), 1, &nine)?, Put::Done);
-    assert_eq!(rt; store.put_at("x", Seqnum(10), 1, &nine)?, Put::Done);
+    assert_eq!(rt; put(&mut store, 5)?, Put::Late);
+    assert_eq!(rt; put(&mut store, 10)?, Put::Done);
+    assert_eq!(rt; put(&mut store, 10)?, Put::Done);
+    Ok(())
+}
+
+#[test]
+fn a_version_is_read_from_its_cursor_on(rt: HostRuntime) -> Result<(), Fail> {
+    let store = fenced(rt.alloc())?;
     assert_eq!(rt; store.versions_at(Seqnum(10)), 1);
-    assert_eq!(rt; read(&store, "x", 10, None), Some(9));
-    assert_eq!(rt; read(&store, "x", 9, None), None);
-    let name = Name {
-        path: Path::request(1).unwrap(),
-        place: 1,
-    };
+    assert_eq!(rt; read(&store, 10, None), Some(9));
+    assert_eq!(rt; read(&store, 9, None), None);
+    Ok(())
+}
+
+#[test]
+fn calls_below_the_floor_are_gone(rt: HostRuntime) -> Result<(), Fail> {
+    let mut store = fenced(rt.alloc())?;
     store.sweep(Seqnum(11), &[])?;
-    assert_eq!(rt; store.put_at("x", Seqnum(10), 1, &nine)?, Put::Gone);
-    assert_eq!(rt; store.put_named(name, Seqnum(10), &nine)?, Named::Gone);
-    assert_eq!(rt; read(&store, "x", 11, None), Some(9));
+    assert_eq!(rt; put(&mut store, 10)?, Put::Gone);
+    let stored = store.put_named(name(), Seqnum(10), &Value::Int(9))?;
+    assert_eq!(rt; stored, Named::Gone);
+    assert_eq!(rt; read(&store, 11, None), Some(9));
     assert_eq!(rt; store.held(), 1);
     Ok(())
 }
@@ -64,21 +102,25 @@ fn scanned(cursor: u64) -> Option<i64> {
     last.map(|write| write.2)
 }
 
+fn put_all(store: &mut ObjStore) -> Result<(), Memory> {
+    for (cursor, k, value) in WRITES {
+        if k >= 1 {
+            store.put_at("x", Seqnum(cursor), k, &Value::Int(value))?;
+        }
+    }
+    Ok(())
+}
+
 fn assert_reads(rt: &impl Abort, store: &ObjStore, from: u64) {
     for cursor in from..12u64 {
-        assert_eq!(rt; read(store, "x", cursor, None), scanned(cursor));
+        assert_eq!(rt; read(store, cursor, None), scanned(cursor));
     }
 }
 
 #[test]
 fn reads_and_sweeps_agree_with_a_scan(rt: HostRuntime) -> Result<(), Fail> {
     let mut store = ObjStore::new(rt.alloc(), &[])?;
-    for (cursor, k, value) in WRITES {
-        assert_eq!(rt;
-            store.put_at("x", Seqnum(cursor), k, &Value::Int(value))?,
-            Put::Done
-        );
-    }
+    put_all(&mut store)?;
     for floor in [0u64, 4, 7, 8, 11] {
         store.sweep(Seqnum(floor), &[])?;
         assert_eq!(rt; store.floor(), Seqnum(floor));
@@ -88,45 +130,56 @@ fn reads_and_sweeps_agree_with_a_scan(rt: HostRuntime) -> Result<(), Fail> {
     Ok(())
 }
 
+// A store with an initial object, and a value under the name.
+fn named(alloc: Global) -> Result<ObjStore, Memory> {
+    let objects = [(Words::from_text(alloc, "x")?, Value::Int(1))];
+    let mut store = ObjStore::new(alloc, &objects)?;
+    store.put_named(name(), Seqnum(2), &Value::Int(4))?;
+    Ok(store)
+}
+
+fn settled(alloc: Global) -> Result<Settled, Memory> {
+    Ok(Settled {
+        key: Words::from_text(alloc, "x")?,
+        seq: Seqnum(4),
+        name: name(),
+        here: None,
+    })
+}
+
+#[test]
+fn a_logged_write_is_read_by_its_name(rt: HostRuntime) -> Result<(), Fail> {
+    let store = named(rt.alloc())?;
+    let logged = logged();
+    assert_eq!(rt; read(&store, 3, None), Some(1));
+    assert_eq!(rt; read(&store, 4, Some(&logged)), Some(4));
+    assert_eq!(rt; store.held(), 2);
+    Ok(())
+}
+
 #[test]
 fn a_settled_write_becomes_the_base(rt: HostRuntime) -> Result<(), Fail> {
-    let key = Words::from_text(rt.alloc(), "x")?;
-    let objects = [(key.clone()?, Value::Int(1))];
-    let mut store = ObjStore::new(rt.alloc(), &objects)?;
-    let name = Name {
-        path: Path::request(1).unwrap(),
-        place: 1,
-    };
-    assert_eq!(rt;
-        store.put_named(name, Seqnum(2), &Value::Int(4))?,
-        Named::Done
-    );
-    let logged = Logged {
-        seq: Seqnum(4),
-        name,
-        here: None,
-    };
-    assert_eq!(rt; read(&store, "x", 3, None), Some(1));
-    assert_eq!(rt; read(&store, "x", 4, Some(&logged)), Some(4));
-    assert_eq!(rt; store.held(), 2);
-    assert_eq!(rt; store.put_at("b", Seqnum(7), 1, &Value::Int(7))?, Put::Done);
-    assert_eq!(rt; store.read_fenced("a", Seqnum(8), None)?, Fenced::Missing);
+    let mut store = named(rt.alloc())?;
+    let settled = [settled(rt.alloc())?];
+    store.sweep(Seqnum(5), &settled)?;
+    let logged = logged();
+    assert_eq!(rt; store.held(), 1);
+    assert_eq!(rt; read(&store, 5, None), Some(4));
+    assert_eq!(rt; read(&store, 5, Some(&logged)), Some(4));
+    assert_eq!(rt; read(&store, 4, None), None);
+    Ok(())
+}
+
+#[test]
+fn keys_are_in_order(rt: HostRuntime) -> Result<(), Fail> {
+    let mut store = named(rt.alloc())?;
+    store.put_at("b", Seqnum(7), 1, &Value::Int(7))?;
+    let group = [Words::from_text(rt.alloc(), "a")?];
+    assert!(rt; store.raise_group(&group, Seqnum(6))?);
+    assert_eq!(rt; store.fence("a"), Seqnum(6));
     let keys = store.keys()?;
     assert_eq!(rt; keys.len(), 2);
     assert!(rt; keys.get(0).is_some_and(|key| key.is("b")));
     assert!(rt; keys.get(1).is_some_and(|key| key.is("x")));
-    assert!(rt; store.raise_group(&[key.clone()?], Seqnum(6))?);
-    let settled = [Settled {
-        key,
-        seq: Seqnum(4),
-        name,
-        here: None,
-    }];
-    store.sweep(Seqnum(5), &settled)?;
-    assert_eq!(rt; store.held(), 2);
-    assert_eq!(rt; store.fence("x"), Seqnum(6));
-    assert_eq!(rt; read(&store, "x", 5, None), Some(4));
-    assert_eq!(rt; read(&store, "x", 5, Some(&logged)), Some(4));
-    assert!(rt; matches!(store.read_free("x", Seqnum(4), None), Read::Gone));
     Ok(())
 }
