@@ -1,5 +1,5 @@
 -- What a clause reads of a writer and a reader that are in their places.
-use Rattle.std.specs.Prelude.{List, [], drop, Option, Some, None}
+use Rattle.std.specs.Prelude.{ℕ, List, [], drop, Option, Some, None}
 use Rattle.logbook.specs.Pages.{Book}
 use Rattle.left_right.specs.declared.Absorb.{Ghosts}
 use Rattle.left_right.specs.declared.writer.Writer.{Writer}
@@ -32,10 +32,11 @@ module _ {P A : Type 0} where
   place_view (Some r) = view r.place
   place_view None = None
 
--- the published list as contracts see it, with the history that it is of
-pub record Told : Type 0 where
+-- the published list as contracts see it, with its history, and how many records of the history were not published
+pub record Posted : Type 0 where
   pub book : Book
-  pub list : List Appended
+  pub log : List Appended
+  pub waits : ℕ
 
 -- a reader as contracts see it: of which history it is, what it has seen, and the longest list that it has seen or was told
 pub record Placed : Type 0 where

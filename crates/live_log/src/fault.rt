@@ -1,7 +1,7 @@
 //! Why a call on a live log has no answer.
+use lb_base::Seqnum;
 use std::error::Error;
 use std::fmt;
-use lb_base::Seqnum;
 
 /// Why a log was not opened, or an engine not caught up.
 #[derive(Clone, Copy, Debug, PartialEq, Eq)]

@@ -86,7 +86,12 @@ impl Front {
     }
 
     // With one record more, if the history has no others than these.
-    fn extended(&self, head: &Word<Appended, u64, Law>, item: &Appended, met: &Front) -> Option<Front>
+    fn extended(
+        &self,
+        head: &Word<Appended, u64, Law>,
+        item: &Appended,
+        met: &Front,
+    ) -> Option<Front>
         requires head { head.now ≡ head_of self.now.book }
         requires met { met.now.book ≡ self.now.book }
         ensures { IfSome result (λ f. (f ≡ longer self.now item.now) × IsPrefix met.now.log self.now.log) }
@@ -97,7 +102,9 @@ impl Front {
         }
         let mut seen = self.seen.again();
         seen.learn(&met.seen);
-        let mut offer: Offer<Appended, u64, Law, Nothing> = seen.plain::<Nothing, Appended, Add>(item);
+        let mut offer: Offer<Appended, u64, Law, Nothing> = seen.plain::<Nothing, Appended, Add>(
+            item,
+        );
         let mut pen = seen.no_pen();
         let found = head.compare_exchange::<Add, Nothing>(
             count,

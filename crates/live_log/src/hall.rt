@@ -1,5 +1,5 @@
 //! The writer and the readers of the two copies of a published list.
-ghost use Rattle.std.specs.Prelude.{◌≡◌, ◌≢◌, ◌<◌, ◌≤◌, ◌++◌, ◌∷◌, [], Some, None, IsSome, ℕ, length, vec_len, IfOk, OnOk, OnErr, All, false, true};
+ghost use Rattle.std.specs.Prelude.{◌≡◌, ◌≢◌, ◌<◌, ◌≤◌, ◌⊎◌, IsErr, ◌++◌, ◌∷◌, [], Some, None, IsSome, ℕ, length, vec_len, IfOk, OnOk, OnErr, All, false, true};
 ghost use mathlib.Core.List.{IsPrefix};
 ghost use Rattle.left_right.specs.Sides.{view};
 ghost use Rattle.live_log.specs.Rule.{reached};
@@ -18,7 +18,8 @@ use std::mem;
 use std::mem::ManuallyDrop;
 use std::sync::Wait;
 
-/// The writer of a published list. Contracts see it as that list, with the history of which the list is a beginning.
+/// The writer of a published list. Contracts see it as that list, with the history of which the list is a beginning, and with how
+/// many records of the history were not published for want of memory, which is 0 or 1. While it is 1 nothing more is published.
 pub struct Hall {
     // A call of the writer has it while it runs.
     writer: Option<Writer<Shelf, Step, View, Published>>,
@@ -26,17 +27,16 @@ pub struct Hall {
 }
 
 impl Model for Hall {
-    ghost use Rattle.std.specs.Prelude.{◌≡◌, IsSome};
+    ghost use Rattle.std.specs.Prelude.{◌≡◌, ◌≤◌, ◌-◌, length, IsSome};
     ghost use mathlib.Core.List.{IsPrefix};
-    ghost use Rattle.live_log.specs.Histories.{Known};
     ghost use Rattle.live_log.specs.Rule.{reached};
-    ghost use Rattle.live_log.specs.Ends.{shown_of};
+    ghost use Rattle.live_log.specs.Ends.{Posted, shown_of, waiting_of};
 
-    ghost Value = { Known };
+    ghost Value = { Posted };
 
-    ghost view = { λ h. (shown_of h.writer).front };
+    ghost view = { λ h. record { book = (shown_of h.writer).front.book; log = (shown_of h.writer).front.log; waits = length h.history.log - length (shown_of h.writer).front.log } };
 
-    ghost invariant = { λ h. IsSome h.writer × (shown_of h.writer ≡ reached (shown_of h.writer).front) × ((shown_of h.writer).front.book ≡ h.history.book) × IsPrefix (shown_of h.writer).front.log h.history.log };
+    ghost invariant = { λ h. IsSome h.writer × (shown_of h.writer ≡ reached (shown_of h.writer).front) × ((shown_of h.writer).front.book ≡ h.history.book) × IsPrefix (shown_of h.writer).front.log h.history.log × (length (waiting_of h.writer) ≤ length h.history.log - length (shown_of h.writer).front.log) };
 }
 
 /// A reader of a published list. Contracts see it as the list that it has seen, the longest that it has seen or was told, and the
@@ -103,8 +103,8 @@ fn publish_one<R: Wait>(
     requires here { IsSome place.old × (waiting_of place.old ≡ []) }
     requires next { (shown_of place.old ≡ reached (shown_of place.old).front) × (step.front ≡ record { book = (shown_of place.old).front.book; log = (shown_of place.old).front.log ++ step.item ∷ [] }) }
     ensures here { IsSome place.new }
-    ensures published { OnOk result (shown_of place.new ≡ reached step.front) }
-    ensures kept { OnErr result (shown_of place.new ≡ shown_of place.old) }
+    ensures published { OnOk result ((shown_of place.new ≡ reached step.front) × (waiting_of place.new ≡ [])) }
+    ensures kept { OnErr result ((shown_of place.new ≡ shown_of place.old) × (length (waiting_of place.new) ≤ 1)) }
 {
     let mut writer = place.take().unwrap();
     if writer.append(step).is_err() {
@@ -127,13 +127,14 @@ impl Hall {
 
     /// What is published.
     pub(crate) fn front(&self) -> &Front
-        ensures { result.now ≡ self.now }
+        ensures { result.now ≡ record { book = self.now.book; log = self.now.log } }
     {
         self.writer.as_ref().unwrap().published().front()
     }
 
-    /// Publishes one record, and tells the reader of it. After `Memory` readers see what they saw.
-    #[tactic(auto, using(crate::proofs::Lists::prefix_whole, crate::proofs::Lists::prefix_more, crate::proofs::Lists::prefix_self, crate::proofs::Lists::prefix_trans))]
+    /// Publishes one record, and tells the reader of it. After `Memory` readers see what they saw. Where publishing found no memory,
+    /// the record waits for ever, and each later call answers `Memory` and changes nothing.
+    #[tactic(auto, using(crate::proofs::Lists::prefix_whole, crate::proofs::Lists::prefix_more, crate::proofs::Lists::prefix_self, crate::proofs::Lists::prefix_trans, crate::proofs::Lists::none_left, crate::proofs::Lists::prefix_length))]
     pub(crate) fn publish<R: Wait>(
         &mut self,
         rt: &R,
@@ -142,8 +143,10 @@ impl Hall {
     ) -> Result<(), Memory>
         requires { place.old.book ≡ self.old.book }
         ensures book { self.new.book ≡ self.old.book }
-        ensures published { OnOk result ((self.new.log ≡ self.old.log ++ item ∷ []) × IsPrefix place.old.known self.old.log × (place.new ≡ record place.old { known = self.new.log })) }
-        ensures kept { OnErr result ((self.new ≡ self.old) × (place.new ≡ place.old)) }
+        ensures published { OnOk result ((self.new.log ≡ self.old.log ++ item ∷ []) × (self.new.waits ≡ 0) × IsPrefix place.old.known self.old.log × (place.new ≡ record place.old { known = self.new.log })) }
+        ensures kept { OnErr result ((self.new.log ≡ self.old.log) × (place.new ≡ place.old)) }
+        ensures waits { OnErr result ((self.new ≡ self.old) ⊎ ((self.old.waits ≡ 0) × (self.new.waits ≡ 1))) }
+        ensures stuck { 0 < self.old.waits → IsErr result × (self.new ≡ self.old) }
     {
         if is_stuck(&self.writer, &self.history) || !self.history.add(&item, &place.known) {
             return Err(Memory);
@@ -169,10 +172,9 @@ impl Hall {
 // Whether a record of the history was not published. Then none is from now on.
 fn is_stuck(writer: &Option<Writer<Shelf, Step, View, Published>>, history: &History) -> bool
     requires { IsSome writer.now }
-    ensures { result ≡ false → (waiting_of writer.now ≡ []) × (length history.now.log ≡ length (shown_of writer.now).front.log) }
+    ensures { result ≡ false → length history.now.log ≡ length (shown_of writer.now).front.log }
 {
-    let writer = writer.as_ref().unwrap();
-    writer.has_pending_operations() || history.front().len() != writer.published().front().len()
+    history.front().len() != writer.as_ref().unwrap().published().front().len()
 }
 
 // Adds what the list has behind the copy to the copy, or as much of it as there is room for.
@@ -283,7 +285,7 @@ fn readers(
     places: u32,
 ) -> Result<Vec<Place>, Memory>
     requires { (view writer.old.desk.place ≡ Some front.now) × (front.now.log ≡ []) }
-    ensures kept { writer.new.desk.shown ≡ writer.old.desk.shown }
+    ensures kept { (writer.new.desk.shown ≡ writer.old.desk.shown) × (writer.new.log ≡ writer.old.log) × (writer.new.behind ≡ writer.old.behind) }
     ensures places { IfOk result (λ r. (vec_len r ≡ places) × All (λ p. p ≡ record { book = front.now.book; seen = []; known = [] }) r.items) }
 {
     let mut readers = Vec::new(alloc);

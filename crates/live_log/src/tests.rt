@@ -2,7 +2,10 @@
 ghost use Rattle.std.specs.Prelude.{◌≡◌, ◌<◌, ◌≤◌, ◌-◌, ℕ, length, slice_index};
 ghost use Rattle.live_log.specs.Closing.{Numbered};
 
-use crate::{CloseFault, Door, Entered, Hall, LiveEngine, LiveFault, LiveLog, Naming, Opened, Place, RealDoor};
+use crate::{
+    CloseFault, Door, Entered, Hall, LiveEngine, LiveFault, LiveLog, Naming, Opened, Place,
+    RealDoor,
+};
 use lb_base::{Cond, List, Memory, Record, Seqnum, Tag};
 use std::alloc::Global;
 use std::marker::Brand;
@@ -110,9 +113,13 @@ fn turns<J: Naming, D: Door, R: Wait>(
     requires { length engines.old.items ≡ 2 }
     ensures { length engines.new.items ≡ 2 }
 {
-    let first = log.append(rt, &mut engines[0], record(alloc, 256, "a", None).ok()?).ok()?;
+    let first = log
+        .append(rt, &mut engines[0], record(alloc, 256, "a", None).ok()?)
+        .ok()?;
     let seen = position_or_zero(engines[1].catch_up(door))?;
-    let second = log.append(rt, &mut engines[1], record(alloc, 256, "b", None).ok()?).ok()?;
+    let second = log
+        .append(rt, &mut engines[1], record(alloc, 256, "b", None).ok()?)
+        .ok()?;
     let told = log.learn(rt, &mut engines[0]).ok()?;
     let covered = position_or_zero(engines[0].catch_up(door))?;
     Some(Answers {
@@ -221,13 +228,20 @@ fn three_records<J: Naming, R: Wait>(
     requires { length engines.old.items ≡ 3 }
     ensures { length engines.new.items ≡ 3 }
 {
-    log.append(rt, &mut engines[0], record(alloc, 300, "x", None).ok()?).ok()?;
-    log.append(rt, &mut engines[1], record(alloc, 300, "y", Some(1)).ok()?).ok()?;
-    log.append(rt, &mut engines[2], record(alloc, 300, "z", Some(1)).ok()?).ok()?;
+    log.append(rt, &mut engines[0], record(alloc, 300, "x", None).ok()?)
+        .ok()?;
+    log.append(rt, &mut engines[1], record(alloc, 300, "y", Some(1)).ok()?)
+        .ok()?;
+    log.append(rt, &mut engines[2], record(alloc, 300, "z", Some(1)).ok()?)
+        .ok()?;
     Some(())
 }
 
-fn check_reads<J: Naming, R: Abort>(rt: &R, alloc: Global, engine: &LiveEngine<J>) -> Result<(), Fail> {
+fn check_reads<J: Naming, R: Abort>(
+    rt: &R,
+    alloc: Global,
+    engine: &LiveEngine<J>,
+) -> Result<(), Fail> {
     let tag = Tag(300);
     assert_eq!(rt; engine.position(), 3);
     assert_eq!(rt; engine.count(tag), 2);
@@ -264,7 +278,10 @@ fn three_in_turn<J: Naming, R: Wait + Abort>(
     let caught = engines[0].catch_up(&mut door).ok();
     let reads = check_reads(rt, alloc, &engines[0]);
     log.give_up(rt, engines);
-    assert_eq!(rt; (appended.is_some(), before, number, told, caught), (true, 0, 3, Some(3), Some(3)));
+    assert_eq!(rt;
+        (appended.is_some(), before, number, told, caught),
+        (true, 0, 3, Some(3), Some(3))
+    );
     reads
 }
 
@@ -287,7 +304,9 @@ fn append_and_read<J: Naming, R: Wait>(
     let mut door = RealDoor::new();
     let tag = Tag(300 + engine.number() as u64);
     for _ in 0..times {
-        let seq = log.append(rt, engine, record(alloc, tag.0, "t", None).ok()?).ok()?;
+        let seq = log
+            .append(rt, engine, record(alloc, tag.0, "t", None).ok()?)
+            .ok()?;
         let position = engine.catch_up(&mut door).ok()?;
         if position < seq.0 || engine.prev(tag, Seqnum(position)) != Some(seq) {
             return None;

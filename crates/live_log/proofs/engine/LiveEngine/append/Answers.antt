@@ -22,7 +22,7 @@ returns-clause-ok g c =
     let before = c.self.inside.own.mine.items in
     let places = c.append.new.own.mine.items in
     ok_so c.append.result (λ n ok.
-        let known : c.append.new.place.known ≡ list ++ x ∷ [] = ap (λ (p : Placed). p.known) ok.3 ∙ ok.0 in
-        let longer : places ≡ before ++ length list ∷ [] = ok.4 ∙ ap (λ m. m ++ length list ∷ []) c.in_ok-reserve.ensures.items in
-        let own : picked c.append.new.place.known places ≡ picked c.self.inside.place.known before ++ (length list, x) ∷ [] = ap (λ l. picked l places) known ∙ ap (λ m. picked (list ++ x ∷ []) m) longer ∙ picked_own c.self.inside.place.known list before x i.1.placed ok.2 in
-        search (rules, own)) c.append.ensures.ok
+    let known : c.append.new.place.known ≡ list ++ x ∷ [] = ap (λ (p : Placed). p.known) ok.3 ∙ ok.0 in
+    let longer : places ≡ before ++ length list ∷ [] = ok.4 ∙ ap (λ m. m ++ length list ∷ []) c.in_ok-reserve.ensures.items in
+    let own : picked c.append.new.place.known places ≡ picked c.self.inside.place.known before ++ (length list, x) ∷ [] = ap (λ l. picked l places) known ∙ ap (λ m. picked (list ++ x ∷ []) m) longer ∙ picked_own c.self.inside.place.known list before x i.1.placed ok.2 in
+    search (rules, own)) c.append.ensures.ok
