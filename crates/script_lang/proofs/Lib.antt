@@ -9,3 +9,13 @@ pub mod TextLemmas
 pub mod GrammarReads
 pub mod PrintLemmas
 pub mod GrammarSpelled
+pub mod GoodTokens
+pub mod GoodParts
+pub mod GoodStmts
+pub mod GoodDrafts
+pub mod GoodNames
+pub mod PrintedAgain
+pub mod Relexed
+pub mod ReadAgain
+pub mod RelexedLines
+pub mod ProgramAgain

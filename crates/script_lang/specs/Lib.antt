@@ -11,3 +11,4 @@ pub mod Names
 pub mod Texts
 pub mod Printed
 pub mod Grammar
+pub mod Canonical

@@ -1,7 +1,8 @@
 //! The text of functions.
 
-ghost use Rattle.std.specs.Prelude.{◌≡◌, ◌≤◌, ◌<◌, IfSome, length, option_map};
+ghost use Rattle.std.specs.Prelude.{◌≡◌, ◌≤◌, ◌<◌, IfOk, IfSome, IsTrue, length, option_map};
 ghost use Rattle.std.specs.Str.{IsUtf8};
+ghost use Rattle.boki_model.specs.Plans.{is_program};
 ghost use Rattle.script_lang.specs.Lines.{first_line, line_of};
 ghost use Rattle.script_lang.specs.Functions.{take_line};
 ghost use Rattle.script_lang.specs.Texts.{Gives, AddGives, program_of, ended};
@@ -62,18 +63,9 @@ fn finish_draft(number: u64, draft: Draft) -> Result<Program, ScriptFault>
     }
 }
 
-/// The program that a text spells; `first` is the number of the text's first line.
-///
-/// It needs a `first` from 1 to 300,000. A text is refused with the number of the first line that has a fault, and the first kind
-/// that applies to the whole line: `Truncated`, the last line has no line feed; `Syntax`, the line isn't in the grammar at its
-/// place; `Range`, a number, text, name or count is out of range; `Deep`, the limits of nesting or of operands are passed. Where no
-/// line has such a fault, `End` comes where the text stops in a function, with the number behind the last line. Else names and
-/// numbers of arguments are looked at, from the first line again: `Name`, a function or a parameter is given twice, or a function
-/// isn't known, or a variable is neither a parameter nor set by a line above; `Arity`, a call has another number of arguments
-/// than the function. `Memory` comes where there is no room for the program.
-pub fn parse_functions(alloc: Global, text: &str, first: u64) -> Result<Program, ScriptFault>
-    requires from { 1 ≤ first }
-    requires to { first ≤ 300000 }
+/// The program that a text spells, line by line.
+fn read_functions(alloc: Global, text: &str, first: u64) -> Result<Program, ScriptFault>
+    requires { first ≤ 300000 }
     ensures { Gives result (program_of first text.now) }
 {
     let mut draft = Draft::new(alloc);
@@ -91,4 +83,23 @@ pub fn parse_functions(alloc: Global, text: &str, first: u64) -> Result<Program,
         });
     }
     finish_draft(number, draft)
+}
+
+/// The program that a text spells; `first` is the number of the text's first line. The program is within all limits, its blocks
+/// are closed, and its names and numbers of arguments are right.
+///
+/// It needs a `first` from 1 to 300,000. A text is refused with the number of the first line that has a fault, and the first kind
+/// that applies to the whole line: `Truncated`, the last line has no line feed; `Syntax`, the line isn't in the grammar at its
+/// place; `Range`, a number, text, name or count is out of range; `Deep`, the limits of nesting or of operands are passed. Where no
+/// line has such a fault, `End` comes where the text stops in a function, with the number behind the last line. Else names and
+/// numbers of arguments are looked at, from the first line again: `Name`, a function or a parameter is given twice, or a function
+/// isn't known, or a variable is neither a parameter nor set by a line above; `Arity`, a call has another number of arguments
+/// than the function. `Memory` comes where there is no room for the program.
+pub fn parse_functions(alloc: Global, text: &str, first: u64) -> Result<Program, ScriptFault>
+    requires from { 1 ≤ first }
+    requires to { first ≤ 300000 }
+    ensures exact { Gives result (program_of first text.now) }
+    ensures program { IfOk result (λ p. IsTrue (is_program p)) }
+{
+    read_functions(alloc, text, first)
 }

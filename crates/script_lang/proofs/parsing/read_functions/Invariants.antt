@@ -2,7 +2,7 @@ use Rattle.std.proofs.Common.{◌≡◌, ◌+◌, ◌≤◌, length}
 use Rattle.std.specs.Str.{IsUtf8}
 use Rattle.script_lang.specs.Texts.{scan}
 use Rattle.script_lang.specs.Functions.{no_draft}
-use Rattle.script_lang.proofs.parsing.parse_functions.Given as goal
+use Rattle.script_lang.proofs.parsing.read_functions.Given as goal
 
 abbrev pub invariant-lines : goal.invariant-lines
 invariant-lines l =
