@@ -15,3 +15,8 @@ ghost use Rattle.plan_lang.specs.Texts.{plan_of};
 pub fn read_event_is_one()
     ensures { (setup : Setup) (fs : List Function) (ts : List Token) (x : Entry) → entry_of setup fs ts ≡ Some (Fine x) → x.fault ≡ None → is_event setup fs x.event ≡ true }
 {}
+
+/// The plan that a text spells is within all limits, and its names and numbers of arguments are right.
+pub fn read_plan_is_one()
+    ensures { (text : List ℕ) (plan : Plan) → plan_of text ≡ Ok plan → is_plan plan ≡ true }
+{}
