@@ -38,7 +38,7 @@ fault_later objects lines i o h e among =
     ∙ later_by _ _ _ among
     ∙ ap (λ names. objects_fault names (drop (i + 1) objects) lines (i + 1)) (sym (names_more objects i o h e))
 
-flip : (x y : List ℕ) → bytes_eq x y ≡ bytes_eq y x
+pub flip : (x y : List ℕ) → bytes_eq x y ≡ bytes_eq y x
 flip x y =
     same_from_decides (bytes_eq x y) (bytes_eq y x) (bytes_eq-Decides x y) (λ e. sym ((bytes_eq-Decides y x).0 e), λ e. (bytes_eq-Decides y x).1 (sym e))
 

@@ -11,6 +11,7 @@ mod fault;
 mod fields;
 mod generator;
 mod heads;
+pub mod laws;
 mod naming;
 mod parsing;
 mod plan_text;
