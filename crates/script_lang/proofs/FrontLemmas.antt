@@ -10,7 +10,7 @@ use Rattle.lb_base.proofs.QuotedLemmas.{quoted_cut}
 use Rattle.script_lang.specs.declared.token.Token.{Token}
 use Rattle.script_lang.specs.declared.spans.Class.{Class}
 use Rattle.script_lang.specs.declared.spans.Class.TheVariants.{Figure, Word}
-use Rattle.script_lang.specs.Tokens.{span, number, with_rest, numbered, quoted_token, double, single, symbol, symbol_by, token_at, is_letter}
+use Rattle.script_lang.specs.Tokens.{span, number, with_rest, quoted_token, double, single, symbol, symbol_by, token_at, is_letter}
 use Rattle.script_lang.proofs.SpanLemmas.{boundary, rest_is}
 
 abbrev LeavesText : Option (Token × List ℕ) → Type 0

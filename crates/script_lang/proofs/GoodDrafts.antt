@@ -1,5 +1,5 @@
 -- Functions that are read line by line are within the limits.
-use Rattle.std.proofs.Common.{◌≡◌, ℕ, zero, suc, ◌+◌, ◌<◌, ◌≤◌, Bool, true, false, cond, ltb, leb, eqb, List, [], ◌∷◌, ◌++◌, length, Option, Some, None, Result, Ok, Err, refl, sym, ap, ◌∙◌, subst, append_assoc, length-append, arith}
+use Rattle.std.proofs.Common.{◌≡◌, ℕ, ◌+◌, ◌<◌, ◌≤◌, Bool, true, false, cond, ltb, leb, eqb, List, [], ◌∷◌, ◌++◌, length, Option, Some, None, Result, Ok, Err, refl, sym, ap, ◌∙◌, subst, append_assoc, length-append, arith}
 use Rattle.std.specs.Prelude.{◌&&◌}
 use Rattle.std.proofs.lemmas.Bool.Decides.{nat_tests}
 use Rattle.std.proofs.lemmas.List.{append-nil}
@@ -8,7 +8,6 @@ use Rattle.boki_types.specs.declared.kind.Kind.TheVariants as kinds
 use Rattle.boki_types.specs.declared.program.Function.{Function}
 use Rattle.boki_types.specs.declared.program.Stmt.{Stmt}
 use Rattle.boki_types.specs.declared.program.Stmt.TheVariants as stmts
-use Rattle.boki_model.specs.Bodies.{is_identifier}
 use Rattle.boki_model.specs.Plans.{is_balanced}
 use Rattle.script_lang.specs.declared.token.Token.{Token}
 use Rattle.script_lang.specs.declared.rated.Rated.{Rated}
@@ -25,7 +24,7 @@ use Rattle.script_lang.specs.declared.spans.Class.TheVariants.{Space}
 use Rattle.script_lang.specs.Tokens.{span, tokens_in}
 use Rattle.script_lang.specs.Lines.{line_of, line_behind, spelled, lines_in}
 use Rattle.script_lang.specs.Statements.{head_of, stmt_of}
-use Rattle.script_lang.specs.Functions.{opened, placing, begun, new_function, placed, lined, stage_line, draft_line, take_line, no_draft}
+use Rattle.script_lang.specs.Functions.{placing, begun, new_function, placed, lined, stage_line, take_line, no_draft}
 use Rattle.script_lang.specs.Texts.{goes_on, draft_from, scan}
 use Rattle.script_lang.proofs.GoodTokens.{GoodTokens, tokens_good}
 use Rattle.script_lang.proofs.GoodParts.{GoodRated}
@@ -38,20 +37,20 @@ pub record GoodFunction (f : Function) : Type 0 where
   pub lines : AllOf GoodStmt f.lines
   pub balanced : is_balanced [] f.lines ≡ true
 
-record GoodOpen (f : Function) (bs : List Bool) : Type 0 where
-  name : IsName f.name
-  params : AllOf IsName f.params
-  few : length f.params ≤ 8
-  lines : AllOf GoodStmt f.lines
-  balance : (rest : List Stmt) → is_balanced [] (f.lines ++ rest) ≡ is_balanced bs rest
+pub record GoodOpen (f : Function) (bs : List Bool) : Type 0 where
+  pub name : IsName f.name
+  pub params : AllOf IsName f.params
+  pub few : length f.params ≤ 8
+  pub lines : AllOf GoodStmt f.lines
+  pub balance : (rest : List Stmt) → is_balanced [] (f.lines ++ rest) ≡ is_balanced bs rest
 
-GoodStage : ℕ → Stage → Type 0
+unfoldable pub GoodStage : ℕ → Stage → Type 0
 GoodStage n Between = n ≤ 256
 GoodStage n (Inside f m bs) = (n < 256) × GoodOpen f bs
 
-record GoodDraft (d : Draft) : Type 0 where
-  functions : AllOf GoodFunction d.functions
-  stage : GoodStage (length d.functions) d.stage
+pub record GoodDraft (d : Draft) : Type 0 where
+  pub functions : AllOf GoodFunction d.functions
+  pub stage : GoodStage (length d.functions) d.stage
 
 abbrev ok_in : {A : Type 0} (E : Type 0) → A → Result A E
 ok_in E x = Ok x
@@ -189,13 +188,13 @@ placed_good : (n : ℕ) (fs : List Function) (ms : List (List ℕ)) (f : Functio
 unfolding GoodStage
 placed_good n fs ms f m bs l (placings.Line next) d p a k g s e =
     let balance : (rest : List Stmt) → is_balanced [] ((f.lines ++ l ∷ []) ++ rest) ≡ is_balanced next rest =
-        λ rest. ap (is_balanced []) (append_assoc f.lines (l ∷ []) rest) ∙ g.balance (l ∷ rest) ∙ step_on bs next l rest p in
+    λ rest. ap (is_balanced []) (append_assoc f.lines (l ∷ []) rest) ∙ g.balance (l ∷ rest) ∙ step_on bs next l rest p in
     subst GoodDraft (inner_ok Kind _ d e)
     (record { functions = a; stage = (k, record { name = g.name; params = g.params; few = g.few; lines = all_snoc GoodStmt f.lines l g.lines s; balance = balance }) })
 placed_good n fs ms f m bs l placings.Ends d p a k g s e =
     let nil : bs ≡ [] = ends_nil bs l p in
     let balanced : is_balanced [] f.lines ≡ true =
-        ap (is_balanced []) (sym (append-nil f.lines)) ∙ g.balance [] ∙ ap (λ z. is_balanced z []) nil in
+    ap (is_balanced []) (sym (append-nil f.lines)) ∙ g.balance [] ∙ ap (λ z. is_balanced z []) nil in
     let whole : GoodFunction f = record { name = g.name; params = g.params; few = g.few; lines = g.lines; balanced = balanced } in
     subst GoodDraft (inner_ok Kind _ d e)
     (record { functions = all_snoc GoodFunction fs f a whole; stage = omega (arith, length-append fs (f ∷ [])) })
@@ -208,12 +207,12 @@ lined_good n fs ms f m bs (Some rates.Wide) d a k g h e = absurd (cc)
 lined_good n fs ms f m bs (Some rates.Deep) d a k g h e = absurd (cc)
 lined_good n fs ms f m bs (Some (rates.Fine l)) d a k g h e = placed_good n fs ms f m bs l (placing bs l) d refl a k g (h (rates.Fine l) refl) e
 
-stage_good : (n : ℕ) (ts : List Token) (fs : List Function) (ms : List (List ℕ)) (s : Stage) (d : Draft) → GoodTokens ts → AllOf GoodFunction fs → GoodStage (length fs) s → stage_line n ts fs ms s ≡ Ok d → GoodDraft d
+pub stage_good : (n : ℕ) (ts : List Token) (fs : List Function) (ms : List (List ℕ)) (s : Stage) (d : Draft) → GoodTokens ts → AllOf GoodFunction fs → GoodStage (length fs) s → stage_line n ts fs ms s ≡ Ok d → GoodDraft d
 unfolding GoodStage
 stage_good n ts fs ms Between d t a g e = begun_good n fs ms (head_of ts) d a (λ r. head_good ts r t) e
 stage_good n ts fs ms (Inside f m bs) d t a g e = lined_good n fs ms f m bs (stmt_of ts) d a g.0 g.1 (λ r. stmt_good ts r t) e
 
-take_good : (n : ℕ) (l : Line) (d next : Draft) → ((ts : List Token) → l ≡ lines.Tokens ts → GoodTokens ts) → GoodDraft d → take_line n l d ≡ Ok next → GoodDraft next
+pub take_good : (n : ℕ) (l : Line) (d next : Draft) → ((ts : List Token) → l ≡ lines.Tokens ts → GoodTokens ts) → GoodDraft d → take_line n l d ≡ Ok next → GoodDraft next
 take_good n lines.Skipped d next t g e = subst GoodDraft (inner_ok Kind d next e) g
 take_good n (lines.Tokens ts) d next t g e = stage_good n ts d.functions d.marks d.stage next (t ts refl) g.functions g.stage e
 take_good n lines.Bad d next t g e = absurd (cc)
@@ -230,7 +229,7 @@ behind_good : (front : List ℕ) (ts : List Token) → line_behind front ≡ lin
 behind_good [] ts e = absurd (cc)
 behind_good (c ∷ cs) ts e = behind_by c cs ts (eqb c 35) e
 
-line_good : (line : List ℕ) (ts : List Token) → line_of line ≡ lines.Tokens ts → GoodTokens ts
+pub line_good : (line : List ℕ) (ts : List Token) → line_of line ≡ lines.Tokens ts → GoodTokens ts
 line_good line ts e = behind_good (span Space line).1 ts e
 
 on_line : (others : Draft → Result (ℕ × Draft) ScriptFault) (n : ℕ) (r : Result Draft Kind) (found : ℕ × Draft) → ((d : Draft) → r ≡ Ok d → GoodDraft d) → ((d : Draft) (f : ℕ × Draft) → GoodDraft d → others d ≡ Ok f → GoodDraft f.1) → goes_on others n r ≡ Ok found → GoodDraft found.1
@@ -245,7 +244,7 @@ from_good n (line ∷ ls) rest d found g e =
     (λ next. take_good n (line_of line) d next (line_good line) g)
     (λ next f. from_good (n + 1) ls rest next f) e
 
-no_draft_good : GoodDraft no_draft
+pub no_draft_good : GoodDraft no_draft
 unfolding GoodStage
 no_draft_good = record { functions = tt; stage = omega arith }
 

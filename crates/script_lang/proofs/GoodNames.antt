@@ -1,5 +1,5 @@
 -- A program whose functions are within the limits, and whose second pass finds nothing, is one.
-use Rattle.std.proofs.Common.{◌≡◌, ℕ, zero, suc, ◌+◌, ◌≤◌, Bool, true, false, cond, leb, eqb, List, [], ◌∷◌, ◌++◌, length, take, get_or, Option, Some, None, Result, Ok, Err, refl, sym, ap, ◌∙◌, subst, append_assoc, length-append, arith}
+use Rattle.std.proofs.Common.{◌≡◌, ℕ, suc, ◌+◌, ◌≤◌, Bool, true, false, cond, leb, eqb, List, [], ◌∷◌, ◌++◌, length, take, get_or, Option, Some, None, Result, Ok, Err, refl, sym, ap, ◌∙◌, subst, append_assoc, length-append, arith}
 use Rattle.std.specs.Prelude.{◌&&◌, ◌||◌, not, map, option_map, bytes_eq}
 use Rattle.std.specs.List.{list_all, list_any}
 use Rattle.std.proofs.lemmas.Bool.Decides.{nat_tests}
@@ -15,19 +15,19 @@ use Rattle.boki_types.specs.declared.program.Function.{Function}
 use Rattle.boki_types.specs.declared.program.Program.{Program}
 use Rattle.boki_types.specs.declared.program.Stmt.{Stmt}
 use Rattle.boki_types.specs.declared.program.Stmt.TheVariants as stmts
-use Rattle.boki_types.specs.Finding.{find, function_at}
-use Rattle.boki_model.specs.Bodies.{is_identifier, few}
+use Rattle.boki_types.specs.Finding.{find}
+use Rattle.boki_model.specs.Bodies.{is_identifier}
 use Rattle.boki_model.specs.Maps.{has}
-use Rattle.boki_model.specs.Plans.{operands, nesting, knows, is_expr, expressions, sets, has_arity, known_function, fits_counts, is_stmt, are_stmts, is_function, names, distinct, is_program}
-use Rattle.boki_model.specs.Script.{firsts, seconds, sides}
+use Rattle.boki_model.specs.Plans.{operands, nesting, knows, is_expr, expressions, sets, has_arity, known_function, fits_counts, is_stmt, are_stmts, is_function, distinct, is_program}
+use Rattle.boki_model.specs.Script.{seconds, sides}
 use Rattle.script_lang.specs.declared.draft.Draft.{Draft}
 use Rattle.script_lang.specs.declared.draft.Stage.{Stage}
 use Rattle.script_lang.specs.declared.draft.Stage.TheVariants.{Between, Inside}
 use Rattle.script_lang.specs.declared.fault.ScriptFault.{ScriptFault}
 use Rattle.script_lang.specs.Functions.{no_draft}
 use Rattle.script_lang.specs.Names.{is_among, vars_known, reads_known, call_fault, spawn_fault, line_fault, numbered, lines_fault, head_fault, function_fault, or_else, functions_fault, name_fault}
-use Rattle.script_lang.specs.Texts.{scan, named, ended, finished, program_of, refuse}
-use Rattle.script_lang.proofs.NameLemmas.{has_is_among, known_in_not, known_in_text, known_in_len, known_in_two}
+use Rattle.script_lang.specs.Texts.{scan, named, ended, finished, program_of}
+use Rattle.script_lang.proofs.NameLemmas.{has_is_among}
 use Rattle.script_lang.proofs.GoodParts.{is_fine}
 use Rattle.script_lang.proofs.GoodStmts.{AllOf, IsName, GoodStmt, is_good_expr, good_counts}
 use Rattle.script_lang.proofs.GoodDrafts.{GoodFunction, scanned}
@@ -254,12 +254,15 @@ ok_in E x = Ok x
 inner_ok : {A : Type 0} (E : Type 0) (x y : A) → ok_in E x ≡ ok_in E y → x ≡ y
 inner_ok E x y e = cc
 
+pub functions_pass : (fs : List Function) (ms : List (List ℕ)) → AllOf GoodFunction fs → length fs ≤ 256 → name_fault fs ms ≡ None → is_program (record { functions = fs }) ≡ true
+functions_pass fs ms g l n =
+    let h = functions_are fs [] fs ms 0 refl refl g refl n in
+    both_true _ _ (both_true _ _ (below (length fs) 256 l) h.names) h.functions
+
 named_is : (fs : List Function) (ms : List (List ℕ)) (o : Option (ℕ × Kind)) (p : Program) → name_fault fs ms ≡ o → AllOf GoodFunction fs → length fs ≤ 256 → named fs o ≡ Ok p → is_program p ≡ true
 named_is fs ms (Some fault) p n g l e = absurd (cc)
 named_is fs ms None p n g l e =
-    let h = functions_are fs [] fs ms 0 refl refl g refl n in
-    let q : is_program (record { functions = fs }) ≡ true = both_true _ _ (both_true _ _ (below (length fs) 256 l) h.names) h.functions in
-    subst (λ (z : Program). is_program z ≡ true) (inner_ok ScriptFault (record { functions = fs }) p e) q
+    subst (λ (z : Program). is_program z ≡ true) (inner_ok ScriptFault (record { functions = fs }) p e) (functions_pass fs ms g l n)
 
 ended_is : (n first : ℕ) (text : List ℕ) (fs : List Function) (ms : List (List ℕ)) (s : Stage) (p : Program) → scan first text no_draft ≡ Ok (n, record { functions = fs; marks = ms; stage = s }) → ended n fs ms s ≡ Ok p → is_program p ≡ true
 ended_is n first text fs ms Between p e f =

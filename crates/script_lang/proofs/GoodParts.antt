@@ -1,6 +1,6 @@
 -- Parts that are spelled are within the limits.
-use Rattle.std.proofs.Common.{◌≡◌, ℕ, zero, suc, ◌+◌, ◌-◌, ◌<◌, ◌≤◌, ◌^◌, max, Bool, true, false, cond, ltb, leb, List, [], ◌∷◌, ◌++◌, length, Option, Some, None, refl, sym, ap, ◌∙◌, subst, arith, pos, negsuc, neg_ℤ, ℤ}
-use Rattle.std.specs.Prelude.{◌&&◌, ◌||◌, not, nat_le}
+use Rattle.std.proofs.Common.{◌≡◌, ℕ, zero, suc, ◌+◌, ◌<◌, ◌≤◌, ◌^◌, max, Bool, true, false, cond, ltb, leb, List, [], ◌∷◌, ◌++◌, length, Option, Some, None, refl, sym, ◌∙◌, subst, arith, pos, neg_ℤ, ℤ}
+use Rattle.std.specs.Prelude.{◌&&◌, nat_le}
 use Rattle.std.proofs.lemmas.Bool.Decides.{nat_tests}
 use Rattle.std.proofs.lemmas.Int.{ints}
 use denote.Hole.Carrier.{hidden}
@@ -18,9 +18,9 @@ use Rattle.script_lang.specs.declared.parts.Part.TheVariants.{Tree, Wide, Deep}
 use Rattle.script_lang.specs.declared.parts.Wrapper.{Wrapper}
 use Rattle.script_lang.specs.declared.parts.Wrapper.TheVariants as wrappers
 use Rattle.script_lang.specs.Expressions.{leaf, two, inside, wrap, negated, positive, negative, rated, expr_at}
-use Rattle.script_lang.specs.Grammar.{Spells, number, signed, text, variable, nothing, parens, text_of, len_of, negation, binary, ends_at, IsSpelled}
+use Rattle.script_lang.specs.Grammar.{Spells, number, signed, text, variable, nothing, parens, text_of, len_of, negation, binary, ends_at}
 use Rattle.script_lang.proofs.GrammarSpelled.{read_is_spelled}
-use Rattle.script_lang.proofs.GoodTokens.{GoodToken, GoodTokens, is_good_name}
+use Rattle.script_lang.proofs.GoodTokens.{GoodTokens, is_good_name}
 use Rattle.script_lang.specs.Canonical.{tokens_of}
 use Rattle.script_lang.proofs.PrintedAgain.{again}
 

@@ -1,6 +1,6 @@
 -- Statements that are read are within the limits.
-use Rattle.std.proofs.Common.{◌≡◌, ℕ, zero, suc, ◌+◌, ◌≤◌, Bool, true, false, cond, leb, List, [], ◌∷◌, ◌++◌, length, drop, Option, Some, None, refl, sym, ap, ◌∙◌, subst, arith}
-use Rattle.std.specs.Prelude.{◌&&◌, bytes_eq, codes, map, option_map}
+use Rattle.std.proofs.Common.{◌≡◌, ℕ, zero, suc, ◌+◌, ◌≤◌, Bool, true, false, cond, leb, List, [], ◌∷◌, length, drop, Option, Some, None, refl, subst, arith}
+use Rattle.std.specs.Prelude.{◌&&◌, bytes_eq, codes, option_map}
 use Rattle.std.specs.List.{list_all}
 use Rattle.std.proofs.lemmas.Bool.Decides.{nat_tests}
 use Rattle.boki_types.specs.declared.expr.Expr.{Expr}
@@ -23,7 +23,7 @@ use Rattle.script_lang.specs.declared.setters.Setter.TheVariants as setters
 use Rattle.script_lang.specs.Stream.{taken, same_mark, key_first}
 use Rattle.script_lang.specs.Expressions.{expr_at}
 use Rattle.script_lang.specs.Statements.{Reader, ◌>>=◌, map_rated, both, fine_if, need, needed, alone, name_at, named_at, pair_at, cons, one_more, more_by, many_on, many, several, few, closed_many, listed_by, listed, applied, named_head, head_of, setter_of, setter_by, setter_at, set_value, set_spawn, make_commit, set_commit, set_by, let_of, two_of, one_of, group_of, all_of, keyed, stmt_of}
-use Rattle.script_lang.proofs.GoodTokens.{GoodToken, GoodTokens}
+use Rattle.script_lang.proofs.GoodTokens.{GoodTokens}
 use Rattle.script_lang.proofs.GoodParts.{is_fine, identifier, Again, GoodExpr, GoodRated, expr_good}
 
 abbrev pub is_good_expr : Expr → Bool

@@ -1,9 +1,8 @@
 -- The names among the tokens of a text are words, and not reserved.
-use Rattle.std.proofs.Common.{◌≡◌, ℕ, zero, suc, ◌+◌, Bool, true, false, cond, eqb, ltb, List, [], ◌∷◌, ◌++◌, length, Option, Some, None, refl, sym, ap, ◌∙◌, subst, arith}
+use Rattle.std.proofs.Common.{◌≡◌, ℕ, zero, suc, ◌+◌, Bool, true, false, cond, eqb, ltb, List, [], ◌∷◌, length, Option, Some, None, refl, subst}
 use Rattle.std.specs.Prelude.{IfSome, ◌&&◌, ◌||◌, not, bytes_eq, codes, slice_index}
 use Rattle.std.specs.List.{list_all, list_any}
 use Rattle.std.specs.Char.{is_ascii_digit}
-use Rattle.std.proofs.lemmas.Bool.Decides.{nat_tests}
 use Rattle.boki_types.specs.declared.expr.BinOp.TheVariants as ops
 use Rattle.boki_model.specs.Bodies.{is_letter as letter, is_digit as digit, is_word_text, reserved}
 use Rattle.script_lang.specs.declared.token.Key.{Key}
@@ -12,8 +11,8 @@ use Rattle.script_lang.specs.declared.token.Token.{Token}
 use Rattle.script_lang.specs.declared.token.Token.TheVariants as tokens
 use Rattle.script_lang.specs.declared.spans.Class.TheVariants.{Figure, Word, Space}
 use Rattle.lb_base.specs.Quoted.{quoted_at}
-use Rattle.lb_base.specs.Numeral.{is_numeral, num_of}
-use Rattle.script_lang.specs.Tokens.{is_letter, in_class, span, split_by, number, with_rest, numbered, quoted_token, key_of, named_by, word_token, worded, double, single, symbol, symbol_by, token_at, with_token, lex, lex_on, lex_by, tokens_in}
+use Rattle.lb_base.specs.Numeral.{is_numeral}
+use Rattle.script_lang.specs.Tokens.{is_letter, in_class, span, split_by, number, with_rest, quoted_token, key_of, named_by, word_token, double, single, symbol_by, token_at, with_token, lex, lex_on, lex_by, tokens_in}
 
 abbrev pub is_good_name : List ℕ → Bool
 is_good_name w = is_word_text w && not (list_any (bytes_eq w) reserved)

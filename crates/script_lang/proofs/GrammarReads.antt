@@ -1,21 +1,18 @@
 -- What the grammar spells is read.
-use Rattle.std.proofs.Common.{◌≡◌, ◌≢◌, ℕ, ◌+◌, ◌<◌, ◌≤◌, Bool, true, false, cond, eqb, leb, ltb, List, [], ◌∷◌, ◌++◌, Option, Some, None, refl, sym, ap, ◌∙◌, subst, append_assoc, arith, eqb-true}
+use Rattle.std.proofs.Common.{◌≡◌, ◌≢◌, ℕ, ◌+◌, ◌<◌, ◌≤◌, Bool, true, false, cond, eqb, leb, ltb, List, [], ◌∷◌, ◌++◌, Option, Some, None, refl, ap, ◌∙◌, subst, append_assoc, arith, eqb-true}
 use Rattle.std.specs.Prelude.{◌&&◌}
 use Rattle.std.proofs.lemmas.Bool.Decides.{nat_tests}
 use Rattle.boki_types.specs.declared.expr.BinOp.{BinOp}
 use Rattle.boki_types.specs.declared.expr.BinOp.TheVariants as o
-use Rattle.boki_types.specs.declared.expr.Expr.{Expr}
 use Rattle.script_lang.specs.declared.token.Key.TheVariants as k
 use Rattle.script_lang.specs.declared.token.Mark.TheVariants as m
 use Rattle.script_lang.specs.declared.token.Token.{Token}
 use Rattle.script_lang.specs.declared.token.Token.TheVariants as t
-use Rattle.script_lang.specs.declared.rated.Rated.{Rated}
 use Rattle.script_lang.specs.declared.parts.Part.{Part}
 use Rattle.script_lang.specs.declared.parts.Wrapper.{Wrapper}
 use Rattle.script_lang.specs.declared.parts.Wrapper.TheVariants as w
 use Rattle.script_lang.specs.declared.stack.Item.{Item}
 use Rattle.script_lang.specs.declared.stack.Item.TheVariants.{Open, Not, Left}
-use Rattle.script_lang.specs.declared.stack.Place.{Place}
 use Rattle.script_lang.specs.declared.stack.Place.TheVariants.{Due, Read}
 use Rattle.script_lang.specs.Expressions.{two, inside, wrap, negated, negative, is_zero, rank, tight, reduce, compares, takes_not, operator_by, go_on, close_or_end, closed_by, whole, ended, rated, read_from, expr_at}
 use Rattle.script_lang.specs.Grammar.{Spells, number, signed, text, variable, nothing, parens, text_of, len_of, negation, binary, operator_of, ends_at}

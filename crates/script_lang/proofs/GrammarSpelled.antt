@@ -1,5 +1,5 @@
 -- What is read is spelled by the grammar.
-use Rattle.std.proofs.Common.{◌≡◌, ◌≢◌, ℕ, ◌+◌, ◌<◌, ◌≤◌, Bool, true, false, cond, eqb, leb, ltb, List, [], ◌∷◌, ◌++◌, Option, Some, None, refl, sym, ap, ◌∙◌, subst, append_assoc, arith, eqb-true}
+use Rattle.std.proofs.Common.{◌≡◌, ◌≢◌, ℕ, ◌+◌, ◌≤◌, Bool, true, false, cond, eqb, leb, ltb, List, [], ◌∷◌, ◌++◌, Option, Some, None, refl, sym, ap, ◌∙◌, subst, append_assoc, arith, eqb-true}
 use Rattle.std.specs.Prelude.{◌&&◌}
 use Rattle.std.proofs.lemmas.Bool.Decides.{nat_tests}
 use Rattle.std.proofs.lemmas.List.{append-nil}
@@ -290,9 +290,9 @@ at_open wrapper before ts d s p found is st goes e =
     let o = tokens.Mark marks.Open in
     spelled_along _ _ found
     (ap (λ l. (d ++ l) ++ ts) (sym is)
-        ∙ append_assoc d (before ++ o ∷ []) ts
-        ∙ ap (λ l. d ++ l) (append_assoc before (o ∷ []) ts)
-        ∙ sym (append_assoc d before (o ∷ ts)))
+    ∙ append_assoc d (before ++ o ∷ []) ts
+    ∙ ap (λ l. d ++ l) (append_assoc before (o ∷ []) ts)
+    ∙ sym (append_assoc d before (o ∷ ts)))
     (goes _ _ _ found (due (opened wrapper st)) e)
 
 at_name : (token : Token) (wrapper : Wrapper) (ts d : List Token) (s : List Item) (p : ℕ) (found : Rated Expr × List Token) → At (d ++ token ∷ []) s (Opens wrapper) → Goes ts → read_from ts s (Opens wrapper) ≡ Some found → IsSpelled (d ++ token ∷ ts) found

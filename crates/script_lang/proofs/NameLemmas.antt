@@ -1,5 +1,5 @@
 -- Names, one after another.
-use Rattle.std.proofs.Common.{◌≡◌, ℕ, suc, ◌+◌, ◌<◌, Bool, true, false, List, [], ◌∷◌, length, drop, get_or, refl, sym, ap, ◌∙◌, add-one}
+use Rattle.std.proofs.Common.{◌≡◌, ℕ, suc, ◌+◌, ◌<◌, Bool, List, [], ◌∷◌, length, drop, get_or, refl, sym, ap, ◌∙◌, add-one}
 use Rattle.std.specs.Prelude.{◌&&◌, ◌||◌, not, bytes_eq}
 use Rattle.std.proofs.Math.Seq.{drop-cons}
 use denote.Hole.Carrier.{hidden}
@@ -34,6 +34,6 @@ has_is_among name (k ∷ ks) = ap (λ b. bytes_eq name k || b) (has_is_among nam
 pub distinct_step : (names : List (List ℕ)) (i : ℕ) (name : List ℕ) (b : Bool) → i < length names → name ≡ get_or names i name → b ≡ is_among (drop (i + 1) names) name → distinct (drop i names) ≡ (not b && distinct (drop (i + 1) names))
 distinct_step names i name b h e f =
     let d : drop i names ≡ name ∷ drop (i + 1) names =
-        drop-cons names i name h ∙ ap (λ n. n ∷ drop (suc i) names) (sym e) ∙ ap (λ k. name ∷ drop k names) (sym (add-one i)) in
+    drop-cons names i name h ∙ ap (λ n. n ∷ drop (suc i) names) (sym e) ∙ ap (λ k. name ∷ drop k names) (sym (add-one i)) in
     ap distinct d
     ∙ ap (λ t. not t && distinct (drop (i + 1) names)) (has_is_among name (drop (i + 1) names) ∙ sym f)

@@ -2,7 +2,6 @@
 use Rattle.std.proofs.Common.{◌≡◌, ℕ, suc, ◌+◌, ◌<◌, Bool, true, false, List, [], ◌∷◌, ◌++◌, length, drop, get_or, refl, sym, ap, ◌∙◌, append_assoc, add-one}
 use Rattle.std.specs.Prelude.{codes, nat_lt}
 use Rattle.std.proofs.Math.Seq.{drop-cons}
-use Rattle.std.proofs.lemmas.List.{append-nil}
 use denote.Hole.Carrier.{hidden}
 use Rattle.boki_types.specs.declared.expr.BinOp.{BinOp}
 use Rattle.boki_types.specs.declared.expr.Expr.{Expr}
@@ -10,7 +9,7 @@ use Rattle.boki_types.specs.declared.expr.Expr.TheVariants as e
 use Rattle.boki_types.specs.declared.expr.Expr.TheBlock.{shape-the_row-Expr-0, hidden-the_row-Expr-0}
 use Rattle.boki_types.specs.declared.program.Stmt.{Stmt}
 use Rattle.script_lang.specs.Expressions.{rank, tight}
-use Rattle.script_lang.specs.Printed.{◌&◌, op_text, wrapped, expr_text, listed, behind_comma, comma_before, indent, line_text, lines_text, depth_behind}
+use Rattle.script_lang.specs.Printed.{◌&◌, op_text, wrapped, expr_text, listed, behind_comma, comma_before, line_text, lines_text, depth_behind}
 
 pub not_text : (p : ℕ) (a : Expr) → expr_text p (e.Not a) ≡ wrapped (nat_lt 3 p) (codes "not " & expr_text 3 a)
 unfolding shape-the_row-Expr-0 hidden-the_row-Expr-0 hidden

@@ -1,6 +1,6 @@
 -- What was read as an expression is read again from its canonical tokens.
-use Rattle.std.proofs.Common.{◌≡◌, ℕ, zero, suc, ◌+◌, ◌<◌, ◌≤◌, ◌^◌, max, Bool, true, false, cond, ltb, leb, List, [], ◌∷◌, ◌++◌, length, Option, Some, None, refl, sym, ap, ◌∙◌, subst, arith, pos, negsuc, neg_ℤ, ℤ}
-use Rattle.std.specs.Prelude.{◌&&◌, nat_le}
+use Rattle.std.proofs.Common.{◌≡◌, ℕ, zero, suc, ◌+◌, ◌<◌, ◌≤◌, ◌^◌, max, Bool, true, false, cond, ltb, leb, List, ◌∷◌, ◌++◌, length, Option, Some, None, refl, ap, ◌∙◌, subst, arith, pos, negsuc, neg_ℤ, ℤ}
+use Rattle.std.specs.Prelude.{◌&&◌}
 use Rattle.std.proofs.lemmas.Bool.Decides.{nat_tests}
 use Rattle.std.proofs.lemmas.Int.{ints}
 use denote.Hole.Carrier.{hidden}
@@ -14,7 +14,6 @@ use Rattle.boki_model.specs.Plans.{operands}
 use Rattle.script_lang.specs.declared.token.Key.TheVariants as keys
 use Rattle.script_lang.specs.declared.token.Token.{Token}
 use Rattle.script_lang.specs.declared.token.Token.TheVariants as tokens
-use Rattle.script_lang.specs.declared.rated.Rated.{Rated}
 use Rattle.script_lang.specs.declared.rated.Rated.TheVariants as rates
 use Rattle.script_lang.specs.declared.parts.Part.{Part}
 use Rattle.script_lang.specs.declared.parts.Part.TheVariants.{Tree, Wide, Deep}
@@ -22,7 +21,7 @@ use Rattle.script_lang.specs.declared.parts.Wrapper.{Wrapper}
 use Rattle.script_lang.specs.declared.parts.Wrapper.TheVariants as wrappers
 use Rattle.script_lang.specs.Expressions.{leaf, two, inside, wrap, negated, positive, negative, is_zero, rank, tight, rated, expr_at}
 use Rattle.script_lang.specs.Canonical.{op_token, int_tokens, in_parens, tokens_of, deeper, depth_of}
-use Rattle.script_lang.specs.Grammar.{Spells, number, signed, text, variable, nothing, parens, text_of, len_of, negation, binary, operator_of, ends_at, IsSpelled}
+use Rattle.script_lang.specs.Grammar.{Spells, number, signed, text, variable, nothing, parens, text_of, len_of, negation, binary, operator_of, ends_at}
 use Rattle.script_lang.proofs.GrammarReads.{spelled_is_read}
 use Rattle.script_lang.proofs.GrammarSpelled.{read_is_spelled}
 

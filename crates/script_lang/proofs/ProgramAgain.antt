@@ -1,7 +1,7 @@
 -- The canonical text of a program is read again, line by line.
 use Rattle.std.proofs.Common.{◌≡◌, ℕ, zero, suc, ◌+◌, ◌<◌, ◌≤◌, Bool, true, false, cond, eqb, leb, ltb, List, [], ◌∷◌, ◌++◌, length, take, get_or, Option, Some, None, Result, Ok, Err, refl, sym, ap, ◌∙◌, subst, append_assoc, length-append, arith}
-use Rattle.std.specs.Prelude.{◌&&◌, ◌||◌, not, codes, flat_map}
-use Rattle.std.specs.List.{list_all, list_any}
+use Rattle.std.specs.Prelude.{◌&&◌, not, codes, flat_map}
+use Rattle.std.specs.List.{list_all}
 use Rattle.std.proofs.lemmas.Bool.Decides.{nat_tests}
 use Rattle.std.proofs.lemmas.List.{append-nil}
 use Rattle.boki_types.specs.declared.kind.Kind.{Kind}
@@ -12,31 +12,22 @@ use Rattle.boki_types.specs.declared.program.Program.{Program}
 use Rattle.boki_types.specs.declared.program.Stmt.{Stmt}
 use Rattle.boki_types.specs.declared.program.Stmt.TheVariants as stmts
 use Rattle.boki_model.specs.Bodies.{is_identifier}
-use Rattle.boki_model.specs.Plans.{operands, nesting, expressions, sets, is_balanced, distinct}
+use Rattle.boki_model.specs.Plans.{operands, nesting, sets, is_balanced}
 use Rattle.boki_model.specs.Script.{firsts, seconds, sides}
-use Rattle.script_lang.specs.declared.token.Key.TheVariants as keys
-use Rattle.script_lang.specs.declared.token.Token.{Token}
-use Rattle.script_lang.specs.declared.token.Token.TheVariants as tokens
-use Rattle.script_lang.specs.declared.rated.Rated.{Rated}
-use Rattle.script_lang.specs.declared.rated.Rated.TheVariants as rates
-use Rattle.script_lang.specs.declared.blocks.Placing.{Placing}
 use Rattle.script_lang.specs.declared.blocks.Placing.TheVariants as placings
 use Rattle.script_lang.specs.declared.draft.Draft.{Draft}
 use Rattle.script_lang.specs.declared.draft.Stage.{Stage}
 use Rattle.script_lang.specs.declared.draft.Stage.TheVariants.{Between, Inside}
 use Rattle.script_lang.specs.declared.fault.ScriptFault.{ScriptFault}
-use Rattle.script_lang.specs.declared.lines.Line.{Line}
-use Rattle.script_lang.specs.declared.lines.Line.TheVariants as lines
 use Rattle.script_lang.specs.Lines.{lines_in, onto, line_of}
-use Rattle.script_lang.specs.Statements.{head_of, stmt_of}
-use Rattle.script_lang.specs.Functions.{placing, begun, new_function, placed, lined, stage_line, draft_line, take_line, no_draft}
+use Rattle.script_lang.specs.Functions.{placing, begun, new_function, placed, lined, take_line, no_draft}
 use Rattle.script_lang.specs.Names.{numbered, line_fault, lines_fault, head_fault, function_fault, or_else, functions_fault, name_fault}
 use Rattle.script_lang.specs.Texts.{goes_on, draft_from, scan, named, ended, finished, program_of}
 use Rattle.script_lang.specs.Printed.{◌&◌, whole_text, behind_comma, listed, named_text, pair_text, name_text, commit_text, stmt_text, indent, line_depth, depth_behind, line_text, lines_text, function_text}
 use Rattle.script_lang.proofs.GoodParts.{is_fine}
 use Rattle.script_lang.proofs.GoodStmts.{AllOf, IsName, GoodStmt, is_good_expr}
 use Rattle.script_lang.proofs.GoodDrafts.{GoodFunction, scanned}
-use Rattle.script_lang.proofs.ReadAgain.{stmt_tokens, stmt_again, head_back, call_tokens, list_tokens, name_tokens}
+use Rattle.script_lang.proofs.ReadAgain.{stmt_again, head_back}
 use Rattle.script_lang.proofs.RelexedLines.{no_feed, feed_append, feed_expr, feed_name, stmt_line, head_line}
 
 split_and : (a b : Bool) → (a && b) ≡ true → (a ≡ true) × (b ≡ true)
@@ -262,9 +253,9 @@ text_apart f rest =
     let body = lines_text 1 f.lines ++ codes "end\n" in
     let after = lines_text 1 f.lines ++ (codes "end\n" ++ rest) in
     let left : (f.name ++ (40 ∷ (params ++ (41 ∷ 10 ∷ body)))) ++ rest ≡ f.name ++ (40 ∷ (params ++ (41 ∷ 10 ∷ (body ++ rest)))) =
-        append_assoc f.name (40 ∷ (params ++ (41 ∷ 10 ∷ body))) rest ∙ ap (λ l. f.name ++ (40 ∷ l)) (append_assoc params (41 ∷ 10 ∷ body) rest) in
+    append_assoc f.name (40 ∷ (params ++ (41 ∷ 10 ∷ body))) rest ∙ ap (λ l. f.name ++ (40 ∷ l)) (append_assoc params (41 ∷ 10 ∷ body) rest) in
     let right : (f.name ++ (40 ∷ (params ++ (41 ∷ [])))) ++ 10 ∷ after ≡ f.name ++ (40 ∷ (params ++ (41 ∷ 10 ∷ after))) =
-        append_assoc f.name (40 ∷ (params ++ (41 ∷ []))) (10 ∷ after) ∙ ap (λ l. f.name ++ (40 ∷ l)) (append_assoc params (41 ∷ []) (10 ∷ after)) in
+    append_assoc f.name (40 ∷ (params ++ (41 ∷ []))) (10 ∷ after) ∙ ap (λ l. f.name ++ (40 ∷ l)) (append_assoc params (41 ∷ []) (10 ∷ after)) in
     ap (λ l. codes "function " ++ l)
     (left ∙ ap (λ l. f.name ++ (40 ∷ (params ++ (41 ∷ 10 ∷ l)))) (append_assoc (lines_text 1 f.lines) (codes "end\n") rest) ∙ sym right)
 

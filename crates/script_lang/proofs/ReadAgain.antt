@@ -1,6 +1,6 @@
 -- Statements that were read are read again from their canonical tokens.
-use Rattle.std.proofs.Common.{◌≡◌, ℕ, zero, suc, ◌+◌, ◌<◌, ◌≤◌, Bool, true, false, cond, leb, ltb, List, [], ◌∷◌, ◌++◌, length, Option, Some, None, refl, sym, ap, ◌∙◌, subst, append_assoc, length-append, arith, pos, negsuc, ℤ}
-use Rattle.std.specs.Prelude.{◌&&◌, bytes_eq, codes, map, not}
+use Rattle.std.proofs.Common.{◌≡◌, ℕ, zero, suc, ◌+◌, ◌<◌, ◌≤◌, Bool, true, false, cond, leb, ltb, List, [], ◌∷◌, ◌++◌, length, Option, Some, refl, sym, ap, ◌∙◌, append_assoc, length-append, arith, pos, negsuc, ℤ}
+use Rattle.std.specs.Prelude.{◌&&◌, bytes_eq, codes, not}
 use Rattle.std.specs.List.{list_all, list_any}
 use Rattle.std.proofs.lemmas.Bool.Decides.{nat_tests}
 use Rattle.std.proofs.lemmas.List.{append-nil}
@@ -11,7 +11,7 @@ use Rattle.boki_types.specs.declared.expr.Expr.TheBlock.{shape-the_row-Expr-0, h
 use Rattle.boki_types.specs.declared.program.Stmt.{Stmt}
 use Rattle.boki_types.specs.declared.program.Stmt.TheVariants as stmts
 use Rattle.boki_model.specs.Bodies.{is_word_text, is_identifier, reserved}
-use Rattle.boki_model.specs.Plans.{expressions, sets, from_to}
+use Rattle.boki_model.specs.Plans.{from_to}
 use Rattle.boki_model.specs.Script.{firsts, seconds, sides}
 use Rattle.script_lang.specs.declared.token.Key.TheVariants as keys
 use Rattle.script_lang.specs.declared.token.Mark.TheVariants as marks
@@ -20,15 +20,14 @@ use Rattle.script_lang.specs.declared.token.Token.TheVariants as tokens
 use Rattle.script_lang.specs.declared.rated.Rated.{Rated}
 use Rattle.script_lang.specs.declared.rated.Rated.TheVariants as rates
 use Rattle.script_lang.specs.declared.several.Several.{Several}
-use Rattle.script_lang.specs.declared.setters.Setter.{Setter}
 use Rattle.script_lang.specs.declared.setters.Setter.TheVariants as setters
 use Rattle.script_lang.specs.Stream.{taken, key_first}
 use Rattle.script_lang.specs.Expressions.{rank, tight, expr_at}
 use Rattle.script_lang.specs.Grammar.{ends_at}
 use Rattle.script_lang.specs.Canonical.{op_token, int_tokens, in_parens, tokens_of}
-use Rattle.script_lang.specs.Statements.{Reader, ◌>>=◌, map_rated, both, fine_if, need, alone, name_at, named_at, pair_at, one_more, many_on, more_by, many, several, few, closed_many, listed_by, listed, applied, named_head, head_of, setter_of, setter_by, setter_at, set_value, set_spawn, make_commit, set_commit, set_by, let_of, two_of, one_of, group_of, all_of, keyed, stmt_of}
+use Rattle.script_lang.specs.Statements.{Reader, ◌>>=◌, map_rated, both, fine_if, need, alone, name_at, named_at, pair_at, one_more, many_on, more_by, many, several, few, closed_many, listed_by, listed, applied, head_of, setter_of, setter_by, setter_at, set_value, set_spawn, make_commit, set_commit, set_by, two_of, one_of, group_of, stmt_of}
 use Rattle.script_lang.proofs.GoodParts.{Again}
-use Rattle.script_lang.proofs.GoodStmts.{AllOf, IsName, GoodStmt, good_counts}
+use Rattle.script_lang.proofs.GoodStmts.{AllOf, IsName, GoodStmt}
 
 -- The tokens of lists and statements.
 abbrev pub more_tokens : {A : Type 0} → (A → List Token) → List A → List Token

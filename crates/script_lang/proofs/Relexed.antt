@@ -11,7 +11,7 @@ use Rattle.std.proofs.lemmas.Int.{ints}
 use Rattle.std.proofs.lemmas.List.{append-nil}
 use denote.Hole.Carrier.{hidden}
 use Rattle.lb_base.specs.Numeral.{is_numeral, num_of}
-use Rattle.lb_base.specs.Quoted.{quoted, quoted_at}
+use Rattle.lb_base.specs.Quoted.{quoted}
 use Rattle.lb_base.proofs.NumeralLaws.{numeral-reads_back}
 use Rattle.lb_base.proofs.QuotedLaws.{quoted-reads_back}
 use Rattle.boki_types.specs.declared.expr.BinOp.{BinOp}
@@ -27,7 +27,7 @@ use Rattle.script_lang.specs.declared.token.Token.{Token}
 use Rattle.script_lang.specs.declared.token.Token.TheVariants as tokens
 use Rattle.script_lang.specs.declared.spans.Class.{Class}
 use Rattle.script_lang.specs.declared.spans.Class.TheVariants.{Figure, Word, Space}
-use Rattle.script_lang.specs.Tokens.{is_letter, in_class, span, split_by, number, with_rest, numbered, quoted_token, key_of, named_by, word_token, worded, double, single, symbol, symbol_by, token_at, with_token, lex, lex_on, lex_by, tokens_in}
+use Rattle.script_lang.specs.Tokens.{in_class, span, split_by, number, with_rest, numbered, quoted_token, key_of, named_by, word_token, worded, double, single, token_at, with_token, lex, lex_on, lex_by, tokens_in}
 use Rattle.script_lang.specs.Expressions.{rank, tight}
 use Rattle.script_lang.specs.Printed.{◌&◌, op_text, wrapped, expr_text}
 use Rattle.script_lang.specs.Canonical.{op_token, int_tokens, in_parens, tokens_of}
@@ -161,27 +161,30 @@ name_by w e =
     let not_ = split_or (bytes_eq w (codes "not")) _ or_.1 in
     let none_ = split_or (bytes_eq w (codes "none")) _ not_.1 in
     let text_ = split_or (bytes_eq w (codes "text")) _ none_.1 in
-    let len_ = split_or (bytes_eq w (codes "len")) _ text_.1 in
-    (and_.0, or_.0, no_key (bytes_eq w (codes "let")) keys.Let _ let_.0 (
-    no_key (bytes_eq w (codes "read")) keys.Read _ read_.0 (
-    no_key (bytes_eq w (codes "write")) keys.Write _ write_.0 (
-    no_key (bytes_eq w (codes "return")) keys.Return _ return_.0 (
-    no_key (bytes_eq w (codes "end")) keys.End _ end_.0 (
-    no_key (bytes_eq w (codes "if")) keys.If _ if_.0 (
-    no_key (bytes_eq w (codes "else")) keys.Else _ else_.0 (
-    no_key (bytes_eq w (codes "while")) keys.While _ while_.0 (
-    no_key (bytes_eq w (codes "not")) keys.Not _ not_.0 (
-    no_key (bytes_eq w (codes "none")) keys.Nothing _ none_.0 (
-    no_key (bytes_eq w (codes "text")) keys.TextOf _ text_.0 (
-    no_key (bytes_eq w (codes "len")) keys.Len _ len_.0 (
-    no_key (bytes_eq w (codes "function")) keys.Function _ function_.0 (
-    no_key (bytes_eq w (codes "spawn")) keys.Spawn _ spawn_.0 (
-    no_key (bytes_eq w (codes "join")) keys.Join _ join_.0 (
-    no_key (bytes_eq w (codes "push")) keys.Push _ push_.0 (
-    no_key (bytes_eq w (codes "pop")) keys.Pop _ pop_.0 (
-    no_key (bytes_eq w (codes "begin")) keys.Begin _ begin_.0 (
-    no_key (bytes_eq w (codes "commit")) keys.Commit _ commit_.0 (
-    refl))))))))))))))))))))
+    let len_ = split_or (bytes_eq w (codes "len")) _ text_.1 in (
+      and_.0,
+      or_.0,
+      no_key (bytes_eq w (codes "let")) keys.Let _ let_.0 (
+          no_key (bytes_eq w (codes "read")) keys.Read _ read_.0 (
+          no_key (bytes_eq w (codes "write")) keys.Write _ write_.0 (
+          no_key (bytes_eq w (codes "return")) keys.Return _ return_.0 (
+          no_key (bytes_eq w (codes "end")) keys.End _ end_.0 (
+          no_key (bytes_eq w (codes "if")) keys.If _ if_.0 (
+          no_key (bytes_eq w (codes "else")) keys.Else _ else_.0 (
+          no_key (bytes_eq w (codes "while")) keys.While _ while_.0 (
+          no_key (bytes_eq w (codes "not")) keys.Not _ not_.0 (
+          no_key (bytes_eq w (codes "none")) keys.Nothing _ none_.0 (
+          no_key (bytes_eq w (codes "text")) keys.TextOf _ text_.0 (
+          no_key (bytes_eq w (codes "len")) keys.Len _ len_.0 (
+          no_key (bytes_eq w (codes "function")) keys.Function _ function_.0 (
+          no_key (bytes_eq w (codes "spawn")) keys.Spawn _ spawn_.0 (
+          no_key (bytes_eq w (codes "join")) keys.Join _ join_.0 (
+          no_key (bytes_eq w (codes "push")) keys.Push _ push_.0 (
+          no_key (bytes_eq w (codes "pop")) keys.Pop _ pop_.0 (
+          no_key (bytes_eq w (codes "begin")) keys.Begin _ begin_.0 (
+          no_key (bytes_eq w (codes "commit")) keys.Commit _ commit_.0 (
+          refl))))))))))))))))))),
+    )
 
 name_token : (w : List ℕ) → list_any (bytes_eq w) reserved ≡ false → word_token w ≡ tokens.Name w
 unfolding word_token
@@ -288,7 +291,7 @@ called_lexed w t text rest us ts e i d h =
     let P : List Token → Type 0 = λ l. Lexed ((w ++ (40 ∷ (text ++ codes ")"))) ++ rest) (t ∷ tokens.Mark marks.Open ∷ l) in
     let Q : List ℕ → Type 0 = λ l. Lexed l (t ∷ tokens.Mark marks.Open ∷ (us ++ tokens.Mark marks.Close ∷ ts)) in
     let same : (w ++ (40 ∷ (text ++ codes ")"))) ++ rest ≡ w ++ (40 ∷ (text ++ (41 ∷ rest))) =
-        append_assoc w (40 ∷ (text ++ codes ")")) rest ∙ ap (λ l. w ++ (40 ∷ l)) (append_assoc text (codes ")") rest) in
+    append_assoc w (40 ∷ (text ++ codes ")")) rest ∙ ap (λ l. w ++ (40 ∷ l)) (append_assoc text (codes ")") rest) in
     subst P (sym (append_assoc us (tokens.Mark marks.Close ∷ []) ts))
     (subst Q (sym same)
     (word_lexed w t (40 ∷ (text ++ (41 ∷ rest))) _ e i refl (open_lexed _ _ (h (41 ∷ rest) (tokens.Mark marks.Close ∷ ts) refl (close_lexed rest ts d)))))
@@ -303,7 +306,7 @@ not_lexed text us h rest ts s d = word_lexed (codes "not") (tokens.Key keys.Not)
 two_lexed : (o : BinOp) (left right : List ℕ) (us vs : List Token) → Lexes left us → Lexes right vs → Lexes (left & codes " " & op_text o & codes " " & right) (us ++ op_token o ∷ vs)
 two_lexed o left right us vs h k rest ts s d =
     let same : (left ++ (32 ∷ (op_text o ++ (32 ∷ right)))) ++ rest ≡ left ++ (32 ∷ (op_text o ++ (32 ∷ (right ++ rest)))) =
-        append_assoc left (32 ∷ (op_text o ++ (32 ∷ right))) rest ∙ ap (λ l. left ++ (32 ∷ l)) (append_assoc (op_text o) (32 ∷ right) rest) in
+    append_assoc left (32 ∷ (op_text o ++ (32 ∷ right))) rest ∙ ap (λ l. left ++ (32 ∷ l)) (append_assoc (op_text o) (32 ∷ right) rest) in
     let P : List ℕ → Type 0 = λ l. Lexed l ((us ++ op_token o ∷ vs) ++ ts) in
     let Q : List Token → Type 0 = λ l. Lexed (left ++ (32 ∷ (op_text o ++ (32 ∷ (right ++ rest))))) l in
     subst P (sym same)

@@ -1,6 +1,6 @@
 -- Printed statements are cut into their tokens, line by line.
-use Rattle.std.proofs.Common.{◌≡◌, ℕ, zero, suc, ◌+◌, ◌<◌, ◌≤◌, ◌^◌, Bool, true, false, cond, eqb, ltb, leb, List, [], ◌∷◌, ◌++◌, length, Option, Some, None, refl, sym, ap, ◌∙◌, subst, append_assoc, length-append, arith, pos, negsuc, ℤ}
-use Rattle.std.specs.Prelude.{◌&&◌, ◌||◌, not, bytes_eq, codes, slice_index}
+use Rattle.std.proofs.Common.{◌≡◌, ℕ, zero, suc, ◌+◌, ◌<◌, ◌^◌, Bool, true, false, cond, eqb, ltb, leb, List, [], ◌∷◌, ◌++◌, length, Some, None, refl, sym, ap, ◌∙◌, subst, append_assoc, arith, pos, negsuc, ℤ}
+use Rattle.std.specs.Prelude.{◌&&◌, ◌||◌, not, bytes_eq, codes}
 use Rattle.std.specs.List.{list_all, list_any}
 use Rattle.std.specs.Char.{is_ascii_digit}
 use Rattle.std.specs.Str.{all_ascii_digits}
@@ -10,34 +10,27 @@ use Rattle.std.proofs.lemmas.Bool.Decides.{nat_tests}
 use Rattle.std.proofs.lemmas.Int.{ints}
 use Rattle.std.proofs.lemmas.List.{append-nil}
 use denote.Hole.Carrier.{hidden}
-use Rattle.lb_base.specs.Numeral.{is_numeral, num_of}
-use Rattle.lb_base.specs.Quoted.{quoted, quoted_at, escape, escaped}
+use Rattle.lb_base.specs.Numeral.{is_numeral}
+use Rattle.lb_base.specs.Quoted.{quoted, escape, escaped}
 use Rattle.lb_base.proofs.NumeralLaws.{numeral-reads_back}
-use Rattle.lb_base.proofs.QuotedLaws.{quoted-reads_back}
 use Rattle.boki_types.specs.declared.expr.BinOp.{BinOp}
 use Rattle.boki_types.specs.declared.expr.BinOp.TheVariants as ops
 use Rattle.boki_types.specs.declared.expr.Expr.{Expr, more_of-Expr, end_of-Expr}
 use Rattle.boki_types.specs.declared.expr.Expr.TheVariants as exprs
 use Rattle.boki_types.specs.declared.expr.Expr.TheBlock.{shape-the_row-Expr-0, hidden-the_row-Expr-0}
 use Rattle.boki_model.specs.Bodies.{is_letter as letter, is_digit as digit, is_word_text, is_identifier, reserved, fits}
-use Rattle.script_lang.specs.declared.token.Key.{Key}
 use Rattle.script_lang.specs.declared.token.Key.TheVariants as keys
 use Rattle.script_lang.specs.declared.token.Mark.TheVariants as marks
 use Rattle.script_lang.specs.declared.token.Token.{Token}
 use Rattle.script_lang.specs.declared.token.Token.TheVariants as tokens
-use Rattle.script_lang.specs.declared.spans.Class.{Class}
-use Rattle.script_lang.specs.declared.spans.Class.TheVariants.{Figure, Word, Space}
-use Rattle.script_lang.specs.Tokens.{is_letter, in_class, span, split_by, number, with_rest, numbered, quoted_token, key_of, named_by, word_token, worded, double, single, symbol, symbol_by, token_at, with_token, lex, lex_on, lex_by, tokens_in}
+use Rattle.script_lang.specs.Tokens.{key_of, word_token, double, single, tokens_in}
 use Rattle.script_lang.specs.Expressions.{rank, tight}
-use Rattle.script_lang.specs.Printed.{◌&◌, op_text, wrapped, expr_text, whole_text, behind_comma, listed, named_text, pair_text, name_text, commit_text, stmt_text, indent, line_depth, line_text}
-use Rattle.script_lang.specs.Canonical.{op_token, int_tokens, in_parens, tokens_of}
+use Rattle.script_lang.specs.Printed.{op_text, wrapped, expr_text, whole_text, behind_comma, listed, named_text, pair_text, name_text, commit_text, stmt_text, indent}
 use Rattle.boki_types.specs.declared.program.Stmt.{Stmt}
 use Rattle.boki_types.specs.declared.program.Stmt.TheVariants as stmts
-use Rattle.boki_model.specs.Plans.{expressions, sets}
 use Rattle.boki_model.specs.Script.{firsts, seconds, sides}
-use Rattle.script_lang.specs.declared.lines.Line.{Line}
 use Rattle.script_lang.specs.declared.lines.Line.TheVariants as lines
-use Rattle.script_lang.specs.Lines.{lines_in, onto, line_of, spelled}
+use Rattle.script_lang.specs.Lines.{line_of, spelled}
 use Rattle.script_lang.proofs.GoodParts.{is_fine}
 use Rattle.script_lang.proofs.GoodStmts.{AllOf, IsName, GoodStmt, is_good_expr}
 use Rattle.script_lang.proofs.Relexed.{Lexed, none, space, first, is_safe, Lexes, word_lexed, name_lexed, expr_lexed, lexed_in, open_lexed, close_lexed}
@@ -77,7 +70,7 @@ between left middle right us vs t h k m safe rest ts s d =
     let P : List ℕ → Type 0 = λ l. Lexed l ((us ++ t ∷ vs) ++ ts) in
     let Q : List Token → Type 0 = λ l. Lexed (left ++ (middle ++ (right ++ rest))) l in
     let same : (left ++ (middle ++ right)) ++ rest ≡ left ++ (middle ++ (right ++ rest)) =
-        append_assoc left (middle ++ right) rest ∙ ap (λ l. left ++ l) (append_assoc middle right rest) in
+    append_assoc left (middle ++ right) rest ∙ ap (λ l. left ++ l) (append_assoc middle right rest) in
     subst P (sym same)
     (subst Q (sym (append_assoc us (t ∷ vs) ts))
     (h (middle ++ (right ++ rest)) (t ∷ (vs ++ ts)) (safe (right ++ rest)) (m (right ++ rest) (vs ++ ts) (k rest ts s d))))
@@ -118,7 +111,7 @@ call_lexed f text us n h rest ts s d =
     let P : List Token → Type 0 = λ l. Lexed ((f ++ (40 ∷ (text ++ codes ")"))) ++ rest) (tokens.Name f ∷ tokens.Mark marks.Open ∷ l) in
     let Q : List ℕ → Type 0 = λ l. Lexed l (tokens.Name f ∷ tokens.Mark marks.Open ∷ (us ++ tokens.Mark marks.Close ∷ ts)) in
     let same : (f ++ (40 ∷ (text ++ codes ")"))) ++ rest ≡ f ++ (40 ∷ (text ++ (41 ∷ rest))) =
-        append_assoc f (40 ∷ (text ++ codes ")")) rest ∙ ap (λ l. f ++ (40 ∷ l)) (append_assoc text (codes ")") rest) in
+    append_assoc f (40 ∷ (text ++ codes ")")) rest ∙ ap (λ l. f ++ (40 ∷ l)) (append_assoc text (codes ")") rest) in
     subst P (sym (append_assoc us (tokens.Mark marks.Close ∷ []) ts))
     (subst Q (sym same)
     (name_lexed f (40 ∷ (text ++ (41 ∷ rest))) _ n refl (open_lexed _ _ (h (41 ∷ rest) (tokens.Mark marks.Close ∷ ts) refl (close_lexed rest ts d)))))

@@ -1,5 +1,5 @@
 -- Statements with a list behind their word.
-use Rattle.std.proofs.Common.{◌≡◌, ℕ, Bool, true, false, IsTrue, ◌↔◌, List, [], ◌∷◌, Option, Some, None, refl, sym, ap, ◌∙◌}
+use Rattle.std.proofs.Common.{◌≡◌, ℕ, Bool, true, false, IsTrue, ◌↔◌, List, [], ◌∷◌, Option, Some, refl, ap, ◌∙◌}
 use Rattle.boki_types.specs.declared.expr.Expr.{Expr}
 use Rattle.boki_types.specs.declared.program.Stmt.{Stmt}
 use Rattle.script_lang.specs.declared.token.Token.{Token}

@@ -1,11 +1,10 @@
 -- A text, line by line.
-use Rattle.std.proofs.Common.{◌≡◌, ℕ, ◌+◌, ◌<◌, List, [], ◌∷◌, length, Option, Some, None, Result, Ok, Err, refl, sym, ap, ◌∙◌, arith}
-use Rattle.boki_types.specs.declared.kind.Kind.{Kind}
+use Rattle.std.proofs.Common.{◌≡◌, ℕ, ◌+◌, ◌<◌, List, [], ◌∷◌, length, Some, None, Ok, Err, refl, sym, ap, ◌∙◌, arith}
 use Rattle.boki_types.specs.declared.kind.Kind.TheVariants as kind
 use Rattle.script_lang.specs.declared.draft.Draft.{Draft}
 use Rattle.script_lang.specs.declared.fault.ScriptFault.{ScriptFault}
 use Rattle.script_lang.specs.declared.fault.ScriptFault.TheVariants as faults
-use Rattle.script_lang.specs.Lines.{first_line, lines_in, line_of}
+use Rattle.script_lang.specs.Lines.{first_line, line_of}
 use Rattle.script_lang.specs.Functions.{take_line, no_draft}
 use Rattle.script_lang.specs.Texts.{scan, draft_from, goes_on, finished, program_of, refuse, AddFails, Fails}
 use Rattle.script_lang.proofs.LineLemmas.{line_then}

@@ -1,6 +1,6 @@
 -- Reading an expression from tokens, from the left: what stands before the part that is being read, the innermost first, and
 -- that part. No tree is kept past the limits, and yet everything behind them is read.
-use Rattle.std.specs.Prelude.{◌≡◌, ℕ, ◌+◌, ◌^◌, ◌&&◌, ℤ, pos, neg_ℤ, max, Bool, true, false, not, List, [], ◌∷◌, length, Option, Some, None, ◌==◌, nat_le, nat_lt, if◌then◌else◌}
+use Rattle.std.specs.Prelude.{ℕ, ◌+◌, ◌^◌, ◌&&◌, pos, neg_ℤ, max, Bool, true, false, List, [], ◌∷◌, length, Option, Some, None, ◌==◌, nat_le, nat_lt, if◌then◌else◌}
 use Rattle.boki_types.specs.declared.expr.BinOp.{BinOp}
 use Rattle.boki_types.specs.declared.expr.BinOp.TheVariants as o
 use Rattle.boki_types.specs.declared.expr.Expr.{Expr}

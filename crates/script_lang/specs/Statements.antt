@@ -1,5 +1,5 @@
 -- Values, calls, heads of functions and statements, from tokens.
-use Rattle.std.specs.Prelude.{ℕ, zero, suc, ◌+◌, ◌^◌, pos, neg_ℤ, Bool, true, false, List, [], ◌∷◌, ◌++◌, length, drop, Option, Some, None, option_and_then, option_map, nat_le, nat_lt, if◌then◌else◌, bytes_eq, codes}
+use Rattle.std.specs.Prelude.{ℕ, zero, suc, ◌+◌, ◌^◌, pos, neg_ℤ, Bool, true, false, List, [], ◌∷◌, length, drop, Option, Some, None, option_and_then, option_map, nat_le, nat_lt, if◌then◌else◌, bytes_eq, codes}
 use Rattle.lb_base.specs.declared.value.Value.{Value}
 use Rattle.lb_base.specs.declared.value.Value.TheVariants as v
 use Rattle.boki_types.specs.declared.expr.Expr.{Expr}

@@ -202,7 +202,12 @@ impl Draft {
     }
 
     /// The same with a line of a text, which may be one that is skipped.
-    pub(crate) fn take_line(self, alloc: Global, number: u64, line: Line) -> Result<Draft, LineFault>
+    pub(crate) fn take_line(
+        self,
+        alloc: Global,
+        number: u64,
+        line: Line,
+    ) -> Result<Draft, LineFault>
         ensures { LineGives result (take_line number line self) }
     {
         match line {

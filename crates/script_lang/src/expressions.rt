@@ -8,7 +8,9 @@ ghost use Rattle.script_lang.specs.Expressions.{operand, number_at, not_at, key_
 ghost use Rattle.script_lang.specs.Stream.{behind, first_of};
 ghost use Rattle.script_lang.specs.Reading.{left_by, Reads, Closes, GoesOn};
 
-use crate::parts::{Part, Wrapper, negative_part, operand as operand_part, positive_part, rated_part, wrap_part};
+use crate::parts::{
+    Part, Wrapper, negative_part, operand as operand_part, positive_part, rated_part, wrap_part,
+};
 use crate::rated::Rated;
 use crate::stack::{Item, Place, is_comparing, may_negate, rank_of, take_right, tight_rank};
 use crate::token::{Key, Mark, Token};
@@ -193,11 +195,7 @@ fn token_here(
 }
 
 /// What is read, where it is whole.
-fn whole_part(
-    alloc: Global,
-    stack: &mut Vec<Item>,
-    place: Place,
-) -> Result<Option<Part>, Memory>
+fn whole_part(alloc: Global, stack: &mut Vec<Item>, place: Place) -> Result<Option<Part>, Memory>
     ensures { IfOk result (λ r. r ≡ finish (reverse stack.old.items) place) }
 {
     match place {
@@ -329,10 +327,7 @@ fn advance(
 /// The longest expression that begins the tokens, which are then those behind it; None where a token doesn't fit before it ends.
 ///
 /// `Memory` comes where there is no room for the expression.
-pub(crate) fn read_expr(
-    alloc: Global,
-    tokens: &mut Tokens,
-) -> Result<Option<Rated<Expr>>, Memory>
+pub(crate) fn read_expr(alloc: Global, tokens: &mut Tokens) -> Result<Option<Rated<Expr>>, Memory>
     ensures { IfOk result (λ found. behind tokens.new found ≡ expr_at tokens.old) }
 {
     let mut stack = Vec::new(alloc);

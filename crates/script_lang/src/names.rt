@@ -48,9 +48,7 @@ fn are_known_behind(known: &[Words], pairs: &[(Words, Expr)]) -> bool
 fn are_known_in_pairs(known: &[Words], pairs: &[(Expr, Expr)]) -> bool
     ensures { result ≡ list_all (λ p. vars_known known.now p.0 && vars_known known.now p.1) pairs.now }
 {
-    pairs
-        .iter()
-        .all(|pair| are_vars_known(known, &pair.0) && are_vars_known(known, &pair.1))
+    pairs.iter().all(|pair| are_vars_known(known, &pair.0) && are_vars_known(known, &pair.1))
 }
 
 /// Whether all variables that a statement reads are known.

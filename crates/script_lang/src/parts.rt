@@ -37,7 +37,11 @@ pub enum Wrapper {
 pub(crate) fn operand(fits: bool, x: Expr) -> Part
     ensures { result ≡ leaf fits x }
 {
-    if fits { Part::Tree(x, 1, 0) } else { Part::Wide }
+    if fits {
+        Part::Tree(x, 1, 0)
+    } else {
+        Part::Wide
+    }
 }
 
 /// A numeral without a sign.
@@ -100,12 +104,7 @@ fn join_trees(
 }
 
 /// An operator between two parts.
-pub(crate) fn join_parts(
-    alloc: Global,
-    op: BinOp,
-    left: Part,
-    right: Part,
-) -> Result<Part, Memory>
+pub(crate) fn join_parts(alloc: Global, op: BinOp, left: Part, right: Part) -> Result<Part, Memory>
     ensures { IfOk result (λ x. x ≡ two op left right) }
 {
     match left {

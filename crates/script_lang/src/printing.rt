@@ -216,11 +216,7 @@ fn spawn_string(
     Ok(format!(in alloc; "let {name} = spawn {function}({args})")?)
 }
 
-fn commit_string(
-    alloc: Global,
-    name: &Words,
-    writes: &[(Expr, Expr)],
-) -> Result<String, Memory>
+fn commit_string(alloc: Global, name: &Words, writes: &[(Expr, Expr)]) -> Result<String, Memory>
     ensures { IfOk result (λ s. string_bytes s ≡ commit_text name.now writes.now) }
 {
     let name = name.as_str();

@@ -283,11 +283,7 @@ fn read_pair(
 }
 
 /// `E`, behind the word.
-fn read_one(
-    alloc: Global,
-    tokens: &mut Tokens,
-    form: OfOne,
-) -> Result<Option<Rated<Stmt>>, Memory>
+fn read_one(alloc: Global, tokens: &mut Tokens, form: OfOne) -> Result<Option<Rated<Stmt>>, Memory>
     ensures { IfOk result (λ r. r ≡ one_of (one_made form) tokens.old) }
 {
     match read_expr(alloc, tokens)? {
@@ -330,11 +326,7 @@ fn read_all_group(alloc: Global, tokens: &mut Tokens) -> Result<Option<Rated<Stm
 }
 
 /// What follows a reserved word that begins a statement.
-fn read_keyed(
-    alloc: Global,
-    tokens: &mut Tokens,
-    key: Key,
-) -> Result<Option<Rated<Stmt>>, Memory>
+fn read_keyed(alloc: Global, tokens: &mut Tokens, key: Key) -> Result<Option<Rated<Stmt>>, Memory>
     ensures { IfOk result (λ r. r ≡ keyed key tokens.old) }
 {
     match key {
@@ -353,10 +345,7 @@ fn read_keyed(
 }
 
 /// The statement that the tokens of a line are; None where they are none.
-pub(crate) fn read_stmt(
-    alloc: Global,
-    mut tokens: Tokens,
-) -> Result<Option<Rated<Stmt>>, Memory>
+pub(crate) fn read_stmt(alloc: Global, mut tokens: Tokens) -> Result<Option<Rated<Stmt>>, Memory>
     ensures { IfOk result (λ r. r ≡ stmt_of tokens) }
 {
     match tokens.take() {

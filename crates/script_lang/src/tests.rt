@@ -1,4 +1,6 @@
-use crate::text::{Draft, Line, Tokens, as_text, first_name_fault, read_call, read_line, split_line};
+use crate::text::{
+    Draft, Line, Tokens, as_text, first_name_fault, read_call, read_line, split_line,
+};
 use crate::{Kind, ScriptFault, parse_functions, print_function};
 use lb_base::Memory;
 use std::alloc::Global;
@@ -91,13 +93,37 @@ fn refuses_texts(rt: HostRuntime) -> Result<(), Fail> {
         ("function f()\n# a", 1, Some((2, Kind::Truncated))),
         ("function f()\n", 1, Some((2, Kind::End))),
         ("# a\n\nreturn 1\n", 1, Some((3, Kind::Syntax))),
-        ("function f()\nend\nfunction f()\nend\n", 1, Some((3, Kind::Name))),
+        (
+            "function f()\nend\nfunction f()\nend\n",
+            1,
+            Some((3, Kind::Name)),
+        ),
         ("function f(a, a)\nend\n", 7, Some((7, Kind::Name))),
-        ("function f()\nif 1\nelse\nelse\nend\nend\n", 1, Some((4, Kind::Syntax))),
-        ("function f()\nwhile 1\nelse\nend\nend\n", 1, Some((3, Kind::Syntax))),
-        ("function f()\nlet x = g\nlet y = 1 +\nend\n", 1, Some((3, Kind::Syntax))),
-        ("function f()\nif 0\nlet x = 1\nend\nreturn x\nend\n", 1, None),
-        ("function f(a, b, c, d, e, g, h, i, j)\nend\n", 1, Some((1, Kind::Range))),
+        (
+            "function f()\nif 1\nelse\nelse\nend\nend\n",
+            1,
+            Some((4, Kind::Syntax)),
+        ),
+        (
+            "function f()\nwhile 1\nelse\nend\nend\n",
+            1,
+            Some((3, Kind::Syntax)),
+        ),
+        (
+            "function f()\nlet x = g\nlet y = 1 +\nend\n",
+            1,
+            Some((3, Kind::Syntax)),
+        ),
+        (
+            "function f()\nif 0\nlet x = 1\nend\nreturn x\nend\n",
+            1,
+            None,
+        ),
+        (
+            "function f(a, b, c, d, e, g, h, i, j)\nend\n",
+            1,
+            Some((1, Kind::Range)),
+        ),
     ] {
         assert_eq!(rt; first_fault(alloc, text, first)?, fault, "at {text}");
     }
@@ -114,42 +140,64 @@ fn around(alloc: Global, front: &str, piece: &str, n: usize, back: &str) -> Resu
     Ok(text)
 }
 
+/// The kind that refuses a line with a piece so often in it.
+fn refusal_around(
+    alloc: Global,
+    front: &str,
+    piece: &str,
+    n: usize,
+    back: &str,
+) -> Result<Option<(u64, Kind)>, Memory> {
+    let line = around(alloc, front, piece, n, back)?;
+    refusal_of(alloc, line.as_str())
+}
+
 #[test]
-fn meets_every_limit(rt: HostRuntime) -> Result<(), Fail> {
+fn meets_the_limits_of_expressions(rt: HostRuntime) -> Result<(), Fail> {
     let alloc = rt.alloc();
-    for (piece, back, most) in [
-        ("return (", ")", 0),
-        ("not ", "1", 32),
-        ("1 + ", "1", 63),
-    ] {
-        if most > 0 {
-            let line = around(alloc, "return ", piece, most, back)?;
-            assert_eq!(rt; refusal_of(alloc, line.as_str())?, None, "at {line}");
-            let line = around(alloc, "return ", piece, most + 1, back)?;
-            assert_eq!(rt; refusal_of(alloc, line.as_str())?, Some((2, Kind::Deep)), "at {line}");
-        }
+    for (piece, most) in [("not ", 32), ("1 + ", 63)] {
+        let edge = refusal_around(alloc, "return ", piece, most, "1")?;
+        assert_eq!(rt; edge, None);
+        let past = refusal_around(alloc, "return ", piece, most + 1, "1")?;
+        assert_eq!(rt; past, Some((2, Kind::Deep)));
     }
+    Ok(())
+}
+
+#[test]
+fn meets_the_limit_of_parentheses(rt: HostRuntime) -> Result<(), Fail> {
+    let alloc = rt.alloc();
     let closed = around(alloc, "1", ")", 32, "")?;
-    let line = around(alloc, "return ", "(", 32, closed.as_str())?;
-    assert_eq!(rt; refusal_of(alloc, line.as_str())?, None);
-    let line = around(alloc, "return not ", "(", 32, closed.as_str())?;
-    assert_eq!(rt; refusal_of(alloc, line.as_str())?, Some((2, Kind::Deep)));
-    for (kind, n) in [(None, 32), (Some((2, Kind::Range)), 33)] {
-        let line = around(alloc, "let ", "x", n, " = 1")?;
-        assert_eq!(rt; refusal_of(alloc, line.as_str())?, kind);
+    let edge = refusal_around(alloc, "return ", "(", 32, closed.as_str())?;
+    assert_eq!(rt; edge, None);
+    let past = refusal_around(alloc, "return not ", "(", 32, closed.as_str())?;
+    assert_eq!(rt; past, Some((2, Kind::Deep)));
+    Ok(())
+}
+
+#[test]
+fn meets_the_limits_of_sizes(rt: HostRuntime) -> Result<(), Fail> {
+    let alloc = rt.alloc();
+    for (front, piece, most, back) in [
+        ("let ", "x", 32, " = 1"),
+        ("return \"", "x", 256, "\""),
+        ("let v = commit ", "a = b, ", 7, "a = b"),
+    ] {
+        let edge = refusal_around(alloc, front, piece, most, back)?;
+        assert_eq!(rt; edge, None);
+        let past = refusal_around(alloc, front, piece, most + 1, back)?;
+        assert_eq!(rt; past, Some((2, Kind::Range)));
     }
-    for (kind, n) in [(None, 256), (Some((2, Kind::Range)), 257)] {
-        let line = around(alloc, "return \"", "x", n, "\"")?;
-        assert_eq!(rt; refusal_of(alloc, line.as_str())?, kind);
-    }
-    for (kind, n) in [(None, 7), (Some((2, Kind::Range)), 8)] {
-        let line = around(alloc, "let v = commit ", "a = b, ", n, "a = b")?;
-        assert_eq!(rt; refusal_of(alloc, line.as_str())?, kind);
-    }
-    for (kind, n) in [(None, 15), (Some((17, Kind::Deep)), 16)] {
+    Ok(())
+}
+
+#[test]
+fn meets_the_limit_of_blocks(rt: HostRuntime) -> Result<(), Fail> {
+    let alloc = rt.alloc();
+    for (fault, n) in [(None, 15), (Some((17, Kind::Deep)), 16)] {
         let ends = around(alloc, "", "end\n", n + 1, "")?;
         let text = around(alloc, "function f()\n", "if 1\n", n, ends.as_str())?;
-        assert_eq!(rt; first_fault(alloc, text.as_str(), 1)?, kind);
+        assert_eq!(rt; first_fault(alloc, text.as_str(), 1)?, fault);
     }
     Ok(())
 }
@@ -159,10 +207,10 @@ fn reads_a_megabyte_of_parentheses(rt: HostRuntime) -> Result<(), Fail> {
     let alloc = rt.alloc();
     let open = around(alloc, "return ", "(", 1_000_000, "")?;
     assert_eq!(rt; refusal_of(alloc, open.as_str())?, Some((2, Kind::Syntax)));
-    let closed = around(alloc, "1", ")", 500_000, "")?;
-    let line = around(alloc, "return ", "(", 500_000, closed.as_str())?;
+    let closed = around(alloc, "1", ")", 50_000, "")?;
+    let line = around(alloc, "return ", "(", 50_000, closed.as_str())?;
     assert_eq!(rt; refusal_of(alloc, line.as_str())?, Some((2, Kind::Deep)));
-    let line = around(alloc, "return ", "1 + ", 100_000, "9223372036854775808")?;
+    let line = around(alloc, "return ", "1 + ", 20_000, "9223372036854775808")?;
     assert_eq!(rt; refusal_of(alloc, line.as_str())?, Some((2, Kind::Range)));
     Ok(())
 }

@@ -1,4 +1,4 @@
-use Rattle.std.proofs.Common.{◌≡◌, List, ℕ, Bool, true, false, sym, ap, ◌∙◌}
+use Rattle.std.proofs.Common.{sym, ap, ◌∙◌}
 use Rattle.std.specs.Prelude.{◌&&◌}
 use Rattle.script_lang.specs.Names.{vars_known}
 use Rattle.script_lang.proofs.NameLemmas.{known_in_not, known_in_text, known_in_len, known_in_two}

@@ -1,6 +1,4 @@
-use Rattle.std.proofs.Common.{◌≡◌, ◌+◌, ◌<◌, Bool, true, false, List, ℕ, length, drop, get_or, sym, ap, ◌∙◌, subst}
-use Rattle.std.specs.Prelude.{◌&&◌, not}
-use Rattle.boki_model.specs.Plans.{distinct}
+use Rattle.std.proofs.Common.{◌+◌, true, false, List, ℕ, drop, sym, ap, ◌∙◌}
 use Rattle.script_lang.specs.Names.{is_among}
 use Rattle.script_lang.proofs.NameLemmas.{distinct_step}
 use Rattle.script_lang.proofs.names.are_distinct.Goals as goal

@@ -11,9 +11,9 @@ returns-in_ok-format-in-Not t c =
     let outer = c.args.outer in
     let x = c.in_ok-x-in-Not.ensures ∙ ap (expr_text 3) c.get.ensures in
     let eq =
-        ap (wrapped (nat_lt 3 outer)) (c.in_ok-format-in-Not.ensures.ok ∙ ap (λ (l : List ℕ). codes "not " ++ l) x)
-        ∙ sym (not_text outer c.in-Not.x)
-        ∙ ap (expr_text outer) (sym c.in-Not.is) in
+    ap (wrapped (nat_lt 3 outer)) (c.in_ok-format-in-Not.ensures.ok ∙ ap (λ (l : List ℕ). codes "not " ++ l) x)
+    ∙ sym (not_text outer c.in-Not.x)
+    ∙ ap (expr_text outer) (sym c.in-Not.is) in
     let P : List ℕ → Type 0 = λ l. IfOk c.wrap_text.result (λ s. string_bytes s ≡ l) in
     subst P eq c.wrap_text.ensures
 
@@ -24,10 +24,10 @@ returns-in_ok-right-in-Two t c =
     let left = c.in_ok-left-in-Two.ensures ∙ ap (expr_text c.tight_rank.result) c.get-in-Two.ensures ∙ ap (λ p. expr_text p c.in-Two.x) level in
     let right = c.in_ok-right-in-Two.ensures ∙ ap (expr_text (c.rank_of-rank.result + 1)) c.get-in-Two-2.ensures ∙ ap (λ p. expr_text (p + 1) c.in-Two.y) c.rank_of-rank.ensures in
     let eq =
-        ap (λ (l : List ℕ). wrapped (nat_lt (rank o) outer) (l & codes " " & op_text o & codes " " & string_bytes c.in_ok-right-in-Two.right)) left
-        ∙ ap (λ (l : List ℕ). wrapped (nat_lt (rank o) outer) (expr_text (tight (rank o)) c.in-Two.x & codes " " & op_text o & codes " " & l)) right
-        ∙ sym (two_text outer o c.in-Two.x c.in-Two.y)
-        ∙ ap (expr_text outer) (sym c.in-Two.is) in
+    ap (λ (l : List ℕ). wrapped (nat_lt (rank o) outer) (l & codes " " & op_text o & codes " " & string_bytes c.in_ok-right-in-Two.right)) left
+    ∙ ap (λ (l : List ℕ). wrapped (nat_lt (rank o) outer) (expr_text (tight (rank o)) c.in-Two.x & codes " " & op_text o & codes " " & l)) right
+    ∙ sym (two_text outer o c.in-Two.x c.in-Two.y)
+    ∙ ap (expr_text outer) (sym c.in-Two.is) in
     let P : List ℕ → Type 0 = λ l. IfOk c.two_text.result (λ s. string_bytes s ≡ l) in
     subst P eq c.two_text.ensures
 
