@@ -33,7 +33,6 @@ set_each_is [] vs t = refl
 set_each_is (x ∷ xs) [] t = refl
 set_each_is (x ∷ xs) (v ∷ vs) t = set_each_is xs vs (script.set x v t)
 
-
 pub set_targets_is : (line : Option Stmt) (vs : List Value) (t : script.State) → script.set_targets (target_of line) vs t ≡ record t { variables = put_pairs (option_and_then pairs_of line) vs t.variables }
 set_targets_is None vs t = refl
 set_targets_is (Some (s.Let x e)) vs t = refl
@@ -51,7 +50,6 @@ set_targets_is (Some (s.While e)) vs t = refl
 set_targets_is (Some s.End) vs t = refl
 set_targets_is (Some (s.Return e)) vs t = refl
 set_targets_is (Some (s.ReadAll pairs)) vs t = set_each_is (script.firsts pairs) vs t
-
 
 pub answered_begin : (names : List (List ℕ)) (target : script.Target) (vs : List Value) (t : script.State) → length vs ≡ length names → script.answered (o.Begin names) target (a.Values vs) t ≡ Some (Ok (record (script.set_targets target vs t) { transaction = Some names }))
 answered_begin names target vs t long = ap (λ (b : Bool). cond b (Some (Ok (record (script.set_targets target vs t) { transaction = Some names }))) None) ((Decides-eqb (length vs) (length names)).1 long)

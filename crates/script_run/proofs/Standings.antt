@@ -16,7 +16,6 @@ use Rattle.script_run.specs.Answering.{received, put_each}
 use Rattle.script_run.specs.Frames.{Kept, Stands, standing_of, lines_of}
 use Rattle.script_run.proofs.Sets.{set_each_is}
 
-
 pub function_is : (n : ℕ) (fs : List Function) (f : Function) → n < length fs → f ≡ get_or fs n f → function_at n fs ≡ Some f
 function_is n [] f within is = absurd (omega arith)
 function_is zero (g ∷ fs) f within is = ap Some (sym is)

@@ -9,7 +9,6 @@ use Rattle.boki_types.specs.declared.expr.BinOp.TheVariants as op
 use Rattle.boki_model.specs.Maps.{before}
 use Rattle.boki_model.specs.Values.{then_, truth, condition, operate}
 
-
 -- two integers, or two texts by their bytes
 abbrev pub is_less : Value → Value → Result Bool TrapKind
 is_less (Int m) (Int n) = Ok (int_lt m n)

@@ -17,11 +17,7 @@ use std::alloc::Global;
 /// The value of an expression.
 ///
 /// It calls itself as deep as the expression is.
-pub(crate) fn eval(
-    alloc: Global,
-    x: &Expr,
-    variables: &[(Words, Value)],
-) -> Result<Value, Halt>
+pub(crate) fn eval(alloc: Global, x: &Expr, variables: &[(Words, Value)]) -> Result<Value, Halt>
     ensures { Gives (eval_of x.now variables.now) result }
 {
     match x {

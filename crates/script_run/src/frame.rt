@@ -134,7 +134,9 @@ impl Frame {
             None => {
                 let mut ask = Ask::Done(Outcome::Good(Value::Nothing));
                 let start = self.at + 1;
-                let at = run(alloc, program, self.depth, lines, start, &mut state, &mut ask)?;
+                let at = run(
+                    alloc, program, self.depth, lines, start, &mut state, &mut ask,
+                )?;
                 Ok(Frame {
                     function: self.function,
                     depth: self.depth,

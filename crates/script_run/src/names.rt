@@ -29,11 +29,7 @@ pub(crate) fn name_of(value: Value) -> Result<Words, Halt>
 }
 
 /// The name that an expression gives.
-pub(crate) fn name_at(
-    alloc: Global,
-    x: &Expr,
-    variables: &[(Words, Value)],
-) -> Result<Words, Halt>
+pub(crate) fn name_at(alloc: Global, x: &Expr, variables: &[(Words, Value)]) -> Result<Words, Halt>
     ensures { Gives (then_ (eval_of x.now variables.now) name_of_value) result }
 {
     let value = eval(alloc, x, variables)?;

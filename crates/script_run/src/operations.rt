@@ -108,10 +108,7 @@ fn begun(names: List<Words>, transaction: &Option<List<Words>>) -> Result<Op, Ha
 }
 
 /// What a commit asks, where a transaction is open.
-fn committed(
-    writes: List<(Words, Value)>,
-    transaction: &Option<List<Words>>,
-) -> Result<Op, Halt>
+fn committed(writes: List<(Words, Value)>, transaction: &Option<List<Words>>) -> Result<Op, Halt>
     ensures gives { Gives (committed_of transaction.now writes) result }
     ensures small { IfOk result IsSmall }
 {

@@ -175,11 +175,19 @@ pub(crate) fn decided(op: BinOp, left: &Value) -> Result<Option<Value>, Halt>
     match op {
         BinOp::Or => {
             let holds = condition(left)?;
-            if holds { Ok(Some(truth(true))) } else { Ok(None) }
+            if holds {
+                Ok(Some(truth(true)))
+            } else {
+                Ok(None)
+            }
         }
         BinOp::And => {
             let holds = condition(left)?;
-            if holds { Ok(None) } else { Ok(Some(truth(false))) }
+            if holds {
+                Ok(None)
+            } else {
+                Ok(Some(truth(false)))
+            }
         }
         _ => Ok(None),
     }

@@ -116,12 +116,7 @@ fn adds_one(rt: HostRuntime) -> Result<(), Fail> {
 }
 
 fn beyond(alloc: Global) -> Result<Stmt, Memory> {
-    Ok(Stmt::Return(two(
-        alloc,
-        BinOp::Add,
-        Expr::Int(i64::MAX),
-        Expr::Int(1),
-    )?))
+    Ok(Stmt::Return(two(alloc, BinOp::Add, Expr::Int(i64::MAX), Expr::Int(1))?))
 }
 
 /// Two operands that trap: the sum would judge its left one, but the right one is worked out first.
@@ -142,7 +137,8 @@ fn expressions_trap(rt: HostRuntime) -> Result<(), Fail> {
     traps(&rt, alloc, beyond(alloc)?, 1, TrapKind::Overflow)?;
     traps(&rt, alloc, none_and_zero(alloc)?, 1, TrapKind::Divide)?;
     traps(&rt, alloc, Stmt::If(Expr::Nothing), 1, TrapKind::Kind)?;
-    let most = "0123456789012345678901234567890123456789012345678901234567890123456789012345678901234567890123456789012345678901234567890123456789";
+    let most =
+        "0123456789012345678901234567890123456789012345678901234567890123456789012345678901234567890123456789012345678901234567890123456789";
     traps(&rt, alloc, glued(alloc, most, most)?, 1, TrapKind::Text)?;
     Ok(())
 }
@@ -208,7 +204,13 @@ fn reads_and_writes(rt: HostRuntime) -> Result<(), Fail> {
     let program = reader(alloc)?;
     let mut frame = start(alloc, &program, 1)?;
     assert!(rt; asks_read(alloc, &frame)?);
-    give(&rt, alloc, &program, &mut frame, Answer::Value(Value::Int(4)))?;
+    give(
+        &rt,
+        alloc,
+        &program,
+        &mut frame,
+        Answer::Value(Value::Int(4)),
+    )?;
     assert!(rt; asks_write(alloc, &frame)?);
     give(&rt, alloc, &program, &mut frame, Answer::Done)?;
     assert!(rt; *frame.ask() == Ask::Done(Outcome::Good(Value::Int(4))));

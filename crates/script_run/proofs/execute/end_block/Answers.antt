@@ -23,8 +23,8 @@ returns-in-Some-clause-leads c = λ at ask.
     let h = c.in-Some-Loop.ensures in
     let body = drop (c.in-Some-Loop.at + 1) lines in
     let is = ends_last lines (made_of c.args.state.now).blocks h.0 c.in-Some-Loop.field-0 t (sym c.as_slice.ensures.value ∙ h.1)
-        ∙ ap (λ (b : Block). script.ends (block_of lines b ∷ blocks_of lines h.0) t) c.in-Some-Loop.field-0-is
-        ∙ ap (λ (o : Option Expr). script.ends (loop_of o body ∷ blocks_of lines h.0) t) (sym c.in-Some.ensures) in
+    ∙ ap (λ (b : Block). script.ends (block_of lines b ∷ blocks_of lines h.0) t) c.in-Some-Loop.field-0-is
+    ∙ ap (λ (o : Option Expr). script.ends (loop_of o body ∷ blocks_of lines h.0) t) (sym c.in-Some.ensures) in
     subst (λ flow. Leads flow lines at ask (state_of lines c.end_turn.new.state) c.end_turn.result) (sym is) (c.end_turn.ensures.leads lines at ask)
 
 pub returns-in-None-loop_test-clause-leads : goal.returns-in-None-loop_test-clause-leads

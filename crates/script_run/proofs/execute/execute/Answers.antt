@@ -62,12 +62,12 @@ returns-in-Return-clause-leads c = λ line is.
 pub returns-in_default : goal.returns-in_default
 returns-in_default c = record {
   leads = λ line is.
-    let lines = c.args.lines.now in
-    let at = c.args.at in
-    let x = c.index-lines-at.result in
-    let same = sym (get_or_from_slice_get lines at line x is) ∙ sym c.index-lines-at.is in
-    subst (λ (l : Stmt). Leads (script.execute c.args.program.now.functions c.args.depth l (drop (at + 1) lines) (state_of lines c.args.state.now)) lines at c.stop.new.ask (state_of lines c.args.state.now) c.stop.result)
-    (sym same) (c.stop.ensures.leads lines at (is ∙ ap Some same));
+      let lines = c.args.lines.now in
+      let at = c.args.at in
+      let x = c.index-lines-at.result in
+      let same = sym (get_or_from_slice_get lines at line x is) ∙ sym c.index-lines-at.is in
+      subst (λ (l : Stmt). Leads (script.execute c.args.program.now.functions c.args.depth l (drop (at + 1) lines) (state_of lines c.args.state.now)) lines at c.stop.new.ask (state_of lines c.args.state.now) c.stop.result)
+      (sym same) (c.stop.ensures.leads lines at (is ∙ ap Some same));
   small = c.stop.ensures.small;
   enters = c.stop.ensures.enters _;
 }

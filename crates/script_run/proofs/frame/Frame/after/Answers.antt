@@ -22,8 +22,8 @@ returns-in-Some c = λ function args depth answers h.
     let op = c.in-Op.operation in
     let t = state_of lines c.receive.new.state in
     let taken = ap (λ (o : Option Stmt). script.answered op (target_of o) c.args.answer (state_from lines made)) (sym c.line_at.ensures)
-        ∙ ap (λ (m : Made). script.answered op (target_of (option_copied c.line_at.result)) c.args.answer (state_from lines m)) (sym c.in_ok-state.ensures)
-        ∙ c.in_ok-kind.ensures lines in
+    ∙ ap (λ (m : Made). script.answered op (target_of (option_copied c.line_at.result)) c.args.answer (state_from lines m)) (sym c.in_ok-state.ensures)
+    ∙ c.in_ok-kind.ensures lines in
     let new : Kept = record { function = i.function; depth = i.depth; at = i.at; ask = k.Done (Trap c.in-Some.kind); made = made_of c.receive.new.state } in
     let goes_on = ap (λ (w : Option TrapKind). script.continued fs i.depth rest (received w t)) c.in-Some.is in
     answer_moves fs function args depth answers c.args.answer old new op lines c.in_ok-kind.field-0 t c.lines_of-lines.ensures c.in-Op.is taken goes_on refl refl (subst (λ (kept : Kept). Stands fs function args depth answers kept) (sym c.self.view_is) h)
@@ -39,10 +39,10 @@ returns-in_ok-at-in-None c = λ function args depth answers h.
     let op = c.in-Op.operation in
     let t = state_of lines c.receive.new.state in
     let taken = ap (λ (o : Option Stmt). script.answered op (target_of o) c.args.answer (state_from lines made)) (sym c.line_at.ensures)
-        ∙ ap (λ (m : Made). script.answered op (target_of (option_copied c.line_at.result)) c.args.answer (state_from lines m)) (sym c.in_ok-state.ensures)
-        ∙ c.in_ok-kind.ensures lines in
+    ∙ ap (λ (m : Made). script.answered op (target_of (option_copied c.line_at.result)) c.args.answer (state_from lines m)) (sym c.in_ok-state.ensures)
+    ∙ c.in_ok-kind.ensures lines in
     let new : Kept = record { function = i.function; depth = i.depth; at = c.in_ok-at-in-None.at; ask = c.run.new.ask; made = made_of c.run.new.state } in
     let goes_on = ap (λ (w : Option TrapKind). script.continued fs i.depth rest (received w t)) c.in-None.is
-        ∙ c.in_ok-at-in-None.ensures.stands
-        ∙ ap (λ (ls : List Stmt). stands_at ls c.run.new.ask c.in_ok-at-in-None.at (state_from ls (made_of c.run.new.state))) c.lines_of-lines.ensures in
+    ∙ c.in_ok-at-in-None.ensures.stands
+    ∙ ap (λ (ls : List Stmt). stands_at ls c.run.new.ask c.in_ok-at-in-None.at (state_from ls (made_of c.run.new.state))) c.lines_of-lines.ensures in
     answer_moves fs function args depth answers c.args.answer old new op lines c.in_ok-kind.field-0 t c.lines_of-lines.ensures c.in-Op.is taken goes_on refl refl (subst (λ (kept : Kept). Stands fs function args depth answers kept) (sym c.self.view_is) h)

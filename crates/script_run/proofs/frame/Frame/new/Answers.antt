@@ -18,10 +18,10 @@ returns c =
     let lines = c.as_slice-lines.result.now in
     let made = made_of c.run.new.state in
     let stands = begins_at fs n args depth f c.requires.known is c.requires.fits
-        ∙ ap (λ (params : List (List ℕ)). Some (script.run fs depth f.lines (script.opening params args))) (sym c.as_slice-2.ensures)
-        ∙ ap (λ (t : script.State). Some (script.run fs depth f.lines t)) (sym (c.in_ok-state.ensures lines))
-        ∙ ap (λ (ls : List Stmt). Some (script.run fs depth ls (state_of lines c.in_ok-state.state))) (sym c.as_slice-lines.ensures)
-        ∙ ap Some c.in_ok-at.ensures.stands
-        ∙ ap (λ (ls : List Stmt). Some (stands_at ls c.run.new.ask c.in_ok-at.at (state_from ls made))) c.as_slice-lines.ensures
-        ∙ ap (λ (o : Option Function). Some (stands_at (lines_of o) c.run.new.ask c.in_ok-at.at (state_from (lines_of o) made))) (sym (function_is n fs f c.requires.known is)) in
+    ∙ ap (λ (params : List (List ℕ)). Some (script.run fs depth f.lines (script.opening params args))) (sym c.as_slice-2.ensures)
+    ∙ ap (λ (t : script.State). Some (script.run fs depth f.lines t)) (sym (c.in_ok-state.ensures lines))
+    ∙ ap (λ (ls : List Stmt). Some (script.run fs depth ls (state_of lines c.in_ok-state.state))) (sym c.as_slice-lines.ensures)
+    ∙ ap Some c.in_ok-at.ensures.stands
+    ∙ ap (λ (ls : List Stmt). Some (stands_at ls c.run.new.ask c.in_ok-at.at (state_from ls made))) c.as_slice-lines.ensures
+    ∙ ap (λ (o : Option Function). Some (stands_at (lines_of o) c.run.new.ask c.in_ok-at.at (state_from (lines_of o) made))) (sym (function_is n fs f c.requires.known is)) in
     record { same_function = refl; same_depth = refl; stands = stands }
