@@ -34,18 +34,17 @@ accounts (suc n) = accounts n ++ rich n ∷ []
 --   write b, y + n
 --   return x - n
 -- end
+abbrev pub move_lines : List Stmt
+move_lines =
+    s.Read (codes "x") (e.Var (codes "a"))
+    ∷ s.Read (codes "y") (e.Var (codes "b"))
+    ∷ s.Write (e.Var (codes "a")) (e.Two o.Sub (e.Var (codes "x")) (e.Var (codes "n")))
+    ∷ s.Write (e.Var (codes "b")) (e.Two o.Add (e.Var (codes "y")) (e.Var (codes "n")))
+    ∷ s.Return (e.Two o.Sub (e.Var (codes "x")) (e.Var (codes "n")))
+    ∷ []
+
 abbrev pub move : Function
-move = record {
-  name = codes "move";
-  params = codes "a" ∷ codes "b" ∷ codes "n" ∷ [];
-  lines =
-      s.Read (codes "x") (var (codes "a"))
-      ∷ s.Read (codes "y") (var (codes "b"))
-      ∷ s.Write (var (codes "a")) (e.Two o.Sub (var (codes "x")) (var (codes "n")))
-      ∷ s.Write (var (codes "b")) (e.Two o.Add (var (codes "y")) (var (codes "n")))
-      ∷ s.Return (e.Two o.Sub (var (codes "x")) (var (codes "n")))
-      ∷ [];
-}
+move = record { name = codes "move"; params = codes "a" ∷ codes "b" ∷ codes "n" ∷ []; lines = move_lines }
 
 -- transfer i: between which accounts, and how much
 abbrev pub giver : ℕ → ℕ

@@ -33,7 +33,8 @@ fn first_object_fault(
     let mut seen: HashSet<&str> = HashSet::new(alloc);
     'objects: for i in 0..objects.len() {
         let name = objects[i].0.as_str();
-        if !seen.insert(name)? {
+        let added = seen.insert(name)?;
+        if !added {
             return Ok(Some((line_at(lines, i), Kind::Name)));
         }
     }

@@ -1,6 +1,6 @@
 //! The canonical text of events and plans.
 
-ghost use Rattle.std.specs.Prelude.{◌≡◌, ◌++◌, IfOk, OnOk, flat_map, option_copied};
+ghost use Rattle.std.specs.Prelude.{◌≡◌, ◌++◌, IfOk, OnOk, flat_map, option_copied, slice_get};
 ghost use Rattle.std.specs.String.{string_bytes};
 ghost use Rattle.lb_base.specs.Print.{value_text};
 ghost use Rattle.boki_types.specs.Finding.{function_at};
@@ -11,11 +11,17 @@ use boki_types::{Event, Function, Program};
 use lb_base::{Memory, Mode, Path, Quoted, Tag, Value, Words};
 use std::alloc::Global;
 
+fn function_in(functions: &[Function], number: usize) -> Option<&Function>
+    ensures { option_copied result ≡ slice_get functions.now number }
+{
+    functions.get(number)
+}
+
 /// The function of a number.
 pub(crate) fn function_of(functions: &[Function], number: u32) -> Option<&Function>
     ensures { option_copied result ≡ function_at number functions.now }
 {
-    functions.get(number as usize)
+    function_in(functions, number as usize)
 }
 
 /// The name of a function, by its number; none where there is no such function.

@@ -72,10 +72,23 @@ fn is_tag(tag: Tag) -> bool
     tag.0 < 1 << 56
 }
 
+fn are_all_tags(tags: &[Tag]) -> bool
+    ensures { result ≡ list_all is_user_tag tags.now }
+{
+    tags.iter().all(|tag| is_tag(*tag))
+}
+
+/// Whether there are one to eight.
+fn are_few(count: usize) -> bool
+    ensures { result ≡ from_to 1 8 count }
+{
+    1 <= count && count <= 8
+}
+
 fn are_tags(tags: &[Tag]) -> bool
     ensures { result ≡ are_user_tags tags.now }
 {
-    1 <= tags.len() && tags.len() <= 8 && tags.iter().all(|tag| is_tag(*tag))
+    are_few(tags.len()) && are_all_tags(tags)
 }
 
 fn is_short(text: &Words) -> bool

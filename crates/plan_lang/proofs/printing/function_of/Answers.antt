@@ -10,4 +10,4 @@ same_function (f ∷ fs) zero = refl
 same_function (f ∷ fs) (suc n) = same_function fs n
 
 pub returns : goal.returns
-returns c = c.get.ensures.lookup ∙ same_function c.args.functions.now c.args.number
+returns c = c.function_in.ensures ∙ same_function c.args.functions.now c.args.number
