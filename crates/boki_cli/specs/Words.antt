@@ -2,6 +2,16 @@
 use Rattle.std.specs.Prelude.{ℕ, ◌&&◌, Bool, false, List, [], ◌∷◌, Option, Some, None, nat_le, if◌then◌else◌, codes}
 use Rattle.std.specs.Str.{bytes_eq}
 use Rattle.lb_base.specs.Numeral.{num_of}
+use Rattle.boki_cli.specs.declared.words.Command.{Command}
+use Rattle.boki_cli.specs.declared.words.Command.TheVariants.{Run, Check, Make}
+
+-- the call that the first word chooses; no word, and one that names no call, choose `run`
+abbrev pub named : List ℕ → Command
+named word = if bytes_eq word (codes "check") then Check else (if bytes_eq word (codes "make") then Make else Run)
+
+abbrev pub chosen : List (List ℕ) → Command
+chosen [] = Run
+chosen (word ∷ words) = named word
 
 -- exactly the word `run`
 abbrev pub is_run : List (List ℕ) → Bool

@@ -30,7 +30,7 @@ fn call<S: Source, K: Sink>(
     source: &mut S,
     sink: &mut K,
 ) -> Status {
-    match Command::of(words) {
+    match Command::chosen(words) {
         Command::Run => run_top(alloc, words, source, sink),
         Command::Check => check_top(alloc, words, source, sink),
         Command::Make => make_top(alloc, words, source, sink),

@@ -2,7 +2,7 @@
 
 ghost use Rattle.std.specs.Prelude.{◌≡◌, ◌≤◌, map, string_bytes, IfSome};
 ghost use Rattle.lb_base.specs.Numeral.{num_of};
-ghost use Rattle.boki_cli.specs.Words.{asked, few, few_beside, is_check, is_run};
+ghost use Rattle.boki_cli.specs.Words.{asked, chosen, few, few_beside, is_check, is_run, named};
 
 use lb_base::read_num;
 
@@ -15,12 +15,26 @@ pub enum Command {
 }
 
 impl Command {
+    /// The call of this name, and `run` where none has it.
+    fn named(word: &str) -> Command
+        ensures { result ≡ named word.now }
+    {
+        if word == "check" {
+            Command::Check
+        } else if word == "make" {
+            Command::Make
+        } else {
+            Command::Run
+        }
+    }
+
     /// The call of the first word. No word, and one that names no call, choose `run`, which then tells the usage.
-    pub fn of(words: &[String]) -> Command {
-        match words.first() {
-            Some(word) if word.as_str() == "check" => Command::Check,
-            Some(word) if word.as_str() == "make" => Command::Make,
-            _ => Command::Run,
+    pub fn chosen(words: &[String]) -> Command
+        ensures { result ≡ chosen (map string_bytes words.now) }
+    {
+        match words {
+            [] => Command::Run,
+            [word, ..] => Command::named(word.as_str()),
         }
     }
 }
