@@ -1,7 +1,7 @@
 use crate::text::{
     Draft, Line, Tokens, as_text, first_name_fault, read_call, read_line, split_line,
 };
-use crate::{Kind, ScriptFault, parse_functions, print_function};
+use crate::{Kind, Program, ScriptFault, parse_functions, print_function};
 use lb_base::Memory;
 use std::alloc::Global;
 use std::test::Fail;
@@ -51,82 +51,78 @@ fn refuses_lines(rt: HostRuntime) -> Result<(), Fail> {
 #[test]
 fn accepts_lines(rt: HostRuntime) -> Result<(), Fail> {
     let alloc = rt.alloc();
-    for line in [
-        "return a -1",
-        "return a--9223372036854775808",
-        "return -5 -5",
-        "return a++b",
-        "return not not a == b and a or b",
-        "return 1and 2",
-        "let v = read all",
-        "let all = 1",
-        "read all all = a, x = b",
-        "let ok = commit",
-        "# return",
-        "",
-        "   ",
-        "let x=spawn f(a,b)",
-        "return text(1)++\"\"",
+    for (line, is_refused) in [
+        ("return a -1", false),
+        ("return a--9223372036854775808", false),
+        ("return -5 -5", false),
+        ("return a++b", false),
+        ("return not not a == b and a or b", false),
+        ("return 1and 2", false),
+        ("let v = read all", true),
+        ("let all = 1", false),
+        ("read all all = a, x = b", false),
+        ("let ok = commit", false),
+        ("# return", false),
+        ("", false),
+        ("   ", false),
+        ("let x=spawn f(a,b)", false),
+        ("return text(1)++\"\"", false),
     ] {
         let kind = refusal_of(alloc, line)?;
-        let names_all = line == "let v = read all";
-        assert_eq!(rt; kind.is_some(), names_all, "at {line}");
+        assert_eq!(rt; kind.is_some(), is_refused, "at {line}");
     }
     Ok(())
 }
 
-fn first_fault(alloc: Global, text: &str, first: u64) -> Result<Option<(u64, Kind)>, Memory> {
-    match parse_functions(alloc, text, first) {
+fn fault_of(read: Result<Program, ScriptFault>) -> Result<Option<(u64, Kind)>, Memory> {
+    match read {
         Ok(_) => Ok(None),
         Err(ScriptFault::Refused { line, kind }) => Ok(Some((line, kind))),
         Err(ScriptFault::Memory) => Err(Memory),
     }
 }
 
+fn first_fault(alloc: Global, text: &str) -> Result<Option<(u64, Kind)>, Memory> {
+    fault_of(parse_functions(alloc, text, 1))
+}
+
 #[test]
 fn refuses_texts(rt: HostRuntime) -> Result<(), Fail> {
     let alloc = rt.alloc();
-    for (text, first, fault) in [
-        ("", 1, None),
-        ("function f()\nend\n", 5, None),
-        ("function f()\nend", 5, Some((6, Kind::Truncated))),
-        ("function f()\n# a", 1, Some((2, Kind::Truncated))),
-        ("function f()\n", 1, Some((2, Kind::End))),
-        ("# a\n\nreturn 1\n", 1, Some((3, Kind::Syntax))),
+    for (text, fault) in [
+        ("", None),
+        ("function f()\nend\n", None),
+        ("function f()\nend", Some((2, Kind::Truncated))),
+        ("function f()\n# a", Some((2, Kind::Truncated))),
+        ("function f()\n", Some((2, Kind::End))),
+        ("# a\n\nreturn 1\n", Some((3, Kind::Syntax))),
         (
             "function f()\nend\nfunction f()\nend\n",
-            1,
             Some((3, Kind::Name)),
         ),
-        ("function f(a, a)\nend\n", 7, Some((7, Kind::Name))),
+        ("function f(a, a)\nend\n", Some((1, Kind::Name))),
         (
             "function f()\nif 1\nelse\nelse\nend\nend\n",
-            1,
             Some((4, Kind::Syntax)),
         ),
         (
             "function f()\nwhile 1\nelse\nend\nend\n",
-            1,
             Some((3, Kind::Syntax)),
         ),
         (
             "function f()\nlet x = g\nlet y = 1 +\nend\n",
-            1,
             Some((3, Kind::Syntax)),
         ),
-        (
-            "function f()\nif 0\nlet x = 1\nend\nreturn x\nend\n",
-            1,
-            None,
-        ),
+        ("function f()\nif 0\nlet x = 1\nend\nreturn x\nend\n", None),
         (
             "function f(a, b, c, d, e, g, h, i, j)\nend\n",
-            1,
             Some((1, Kind::Range)),
         ),
     ] {
-        assert_eq!(rt; first_fault(alloc, text, first)?, fault, "at {text}");
+        assert_eq!(rt; first_fault(alloc, text)?, fault, "at {text}");
     }
+    let later = fault_of(parse_functions(alloc, "function f()\nend", 5))?;
+    assert_eq!(rt; later, Some((6, Kind::Truncated)));
     Ok(())
 }
 
@@ -197,7 +193,7 @@ fn meets_the_limit_of_blocks(rt: HostRuntime) -> Result<(), Fail> {
     for (fault, n) in [(None, 15), (Some((17, Kind::Deep)), 16)] {
         let ends = around(alloc, "", "end\n", n + 1, "")?;
         let text = around(alloc, "function f()\n", "if 1\n", n, ends.as_str())?;
-        assert_eq!(rt; first_fault(alloc, text.as_str(), 1)?, fault);
+        assert_eq!(rt; first_fault(alloc, text.as_str())?, fault);
     }
     Ok(())
 }
