@@ -1,3 +1,1 @@
 pub mod Due
-pub mod Small
-pub mod Words
