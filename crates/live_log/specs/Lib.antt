@@ -1,0 +1,10 @@
+pub mod Appended
+pub mod Histories
+pub mod Rule
+pub mod Ends
+pub mod Counts
+pub mod Tallies
+pub mod Blanks
+pub mod Engines
+pub mod Closing
+pub mod Faults

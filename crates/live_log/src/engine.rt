@@ -1,0 +1,203 @@
+//! One engine of a live log.
+ghost use Rattle.std.specs.Prelude.{◌≡◌, ◌+◌, ◌<◌, ◌≤◌, ◌++◌, ◌∷◌, [], ℕ, length, take, option_map, IfOk, IfErr, OnErr};
+ghost use Rattle.std.specs.Option.{option_copied};
+ghost use mathlib.Core.List.{IsPrefix};
+ghost use Rattle.boki_model.specs.Live.{live, count};
+ghost use Rattle.boki_model.specs.Reads.{next, prev, nth_seq};
+ghost use Rattle.live_log.specs.Appended.{log_of, record_at};
+ghost use Rattle.live_log.specs.Counts.{Rose};
+ghost use Rattle.live_log.specs.Engines.{IsIndexed};
+
+use crate::appended::Appended;
+use crate::desk::{Desk, Own};
+use crate::door::Door;
+use crate::fault::LiveFault;
+use crate::hall::{Entered, Place};
+use crate::naming::Naming;
+use crate::tallies::{Right, Tallies};
+use eng_index::Index;
+use lb_base::{List, Memory, Record, Seqnum, Tag};
+use std::alloc::Global;
+use std::marker::Model;
+use std::sync::Wait;
+
+/// An engine of a live log. Its reads see the first records of a copy of the published list, as many as its position says, and wait
+/// for nobody.
+///
+/// Contracts see it as its number, the list that it has seen, the longest list that it has seen or was told, its position, and its
+/// own appends with their places from 0.
+#[derive(Drop)]
+pub struct LiveEngine<J: Naming> {
+    number: u32,
+    place: Place,
+    copy: List<Appended>,
+    index: Index,
+    own: Own<J>,
+}
+
+impl<J: Naming> Model for LiveEngine<J> {
+    ghost use Rattle.std.specs.Prelude.{◌≡◌, ◌≤◌, length};
+    ghost use Rattle.live_log.specs.Engines.{Engine, IsOwn, IsIndexed, picked};
+    ghost use Rattle.live_log.specs.Tallies.{number_of, count_of, parts_of};
+
+    ghost Value = { Engine };
+
+    ghost view = { λ e. record { number = e.number; seen = e.place.seen; known = e.place.known; at = length e.index.marks; mine = picked e.place.known e.own.mine.items } };
+
+    ghost invariant = { λ e. (e.place.book ≡ J.book) × IsOwn e.number e.place.seen e.place.known e.copy e.own.mine.items (parts_of e.own.right) (count_of e.own.right) × (number_of e.own.right ≡ e.number) × (e.number ≤ J.engines) × IsIndexed e.copy e.index };
+}
+
+// Adds the records of the copy that the index lacks, or as many as there is room for, and answers how many the copy has.
+fn index_rest(index: &mut Index, copy: &[Appended]) -> Result<u64, LiveFault>
+    requires { IsIndexed copy.now index.old }
+    ensures indexed { IsIndexed copy.now index.new }
+    ensures grows { length index.old.marks ≤ length index.new.marks }
+    ensures whole { IfOk result (λ n. (n ≡ length copy.now) × (length index.new.marks ≡ length copy.now)) }
+    ensures memory { IfErr result (λ e. e ≡ LiveFault.Memory) }
+{
+    let from = index.position() as usize;
+    for at in from..copy.len() {
+        if index.add(&copy[at].1).is_err() {
+            return Err(LiveFault::Memory);
+        }
+    }
+    Ok(copy.len() as u64)
+}
+
+impl<J: Naming> LiveEngine<J> {
+    ghost use Rattle.live_log.specs.Engines.{Engine, Rising, EachStands};
+    ghost use Rattle.live_log.specs.Tallies.{number_of, count_of, parts_of, total_at};
+
+    // An engine that has seen nothing.
+    pub(crate) fn new(
+        alloc: Global,
+        number: u32,
+        place: Place,
+        right: Right<J>,
+    ) -> Result<LiveEngine<J>, Memory>
+        requires place { place ≡ record { book = J.book; seen = []; known = [] } }
+        requires number { number ≤ J.engines }
+        requires right { (number_of right ≡ number) × (parts_of right ≡ 1) × (count_of right ≡ 0) }
+        ensures { IfOk result (λ it. it ≡ record { number = number; seen = []; known = []; at = 0; mine = [] }) }
+    {
+        Ok(LiveEngine {
+            number,
+            place,
+            copy: List::new(alloc),
+            index: Index::new(alloc)?,
+            own: Own {
+                mine: Vec::new(alloc),
+                right,
+            },
+        })
+    }
+
+    /// Its number, from 1.
+    pub fn number(&self) -> u32
+        ensures { result ≡ self.now.number }
+    {
+        self.number
+    }
+
+    /// How many records of the list its reads see.
+    pub fn position(&self) -> u64
+        ensures { result ≡ self.now.at }
+    {
+        self.index.position()
+    }
+
+    /// The record with the seqnum, live or dead, or None where the position doesn't cover it. Seqnums are counted from 1.
+    pub fn record(&self, seq: Seqnum) -> Option<&Record>
+        ensures { option_copied result ≡ record_at seq.0 (take self.now.at self.now.seen) }
+    {
+        if seq.0 == 0 || seq.0 > self.index.position() {
+            return None;
+        }
+        let item = self.copy.get(seq.0 as usize - 1)?;
+        Some(&item.1)
+    }
+
+    /// The first live record of the tag at or behind a seqnum, or None where there is none.
+    pub fn next(&self, tag: Tag, from: Seqnum) -> Option<Seqnum>
+        ensures { option_map (λ seq. seq.0) result ≡ next tag.0 from.0 (live (log_of (take self.now.at self.now.seen))) }
+    {
+        self.index.next(tag, from)
+    }
+
+    /// The last live record of the tag at or before a seqnum, or None where there is none.
+    pub fn prev(&self, tag: Tag, upto: Seqnum) -> Option<Seqnum>
+        ensures { option_map (λ seq. seq.0) result ≡ prev tag.0 upto.0 (live (log_of (take self.now.at self.now.seen))) }
+    {
+        self.index.prev(tag, upto)
+    }
+
+    /// The live record of the tag at a place, or None where there is none. Places are counted from 0, over the tag's live records.
+    pub fn nth(&self, tag: Tag, place: u64) -> Option<Seqnum>
+        ensures { option_map (λ seq. seq.0) result ≡ nth_seq tag.0 place (live (log_of (take self.now.at self.now.seen))) }
+    {
+        self.index.nth(tag, place)
+    }
+
+    /// How many live records the tag has.
+    pub fn count(&self, tag: Tag) -> u64
+        ensures { result ≡ count tag.0 (live (log_of (take self.now.at self.now.seen))) }
+    {
+        self.index.count(tag)
+    }
+
+    /// Looks once at what is published, and answers the position, which then covers all of it. It waits for nobody.
+    ///
+    /// The list that is seen begins with what the engine had seen, what it was told and its own appends. `Refused` comes only where
+    /// the door's refusals rose in this call, and leaves the engine as it was. After `Memory` the position is between the old one
+    /// and the length of the list that was seen.
+    pub fn catch_up<D: Door>(&mut self, door: &mut D) -> Result<u64, LiveFault>
+        ensures counted { D.refusals door.old ≤ D.refusals door.new }
+        ensures ok { IfOk result (λ n. (n ≡ self.new.at) × (self.new.at ≡ length self.new.seen) × IsPrefix self.old.known self.new.seen × (self.new.known ≡ self.new.seen)) }
+        ensures own { IfOk result (λ _. EachStands self.new.seen self.new.mine) }
+        ensures refused { IfErr result (λ e. e ≡ LiveFault.Refused → Rose (D.refusals door.old) (D.refusals door.new) × (self.new ≡ self.old)) }
+        ensures known { IsPrefix self.old.known self.new.known }
+        ensures grows { IsPrefix self.old.seen self.new.seen × (self.old.at ≤ self.new.at) × (self.new.at ≤ length self.new.seen) }
+        ensures same { (self.new.number ≡ self.old.number) × (self.new.mine ≡ self.old.mine) }
+    {
+        match door.enter(&mut self.place, &mut self.copy) {
+            Entered::Done => index_rest(&mut self.index, self.copy.as_slice()),
+            Entered::Refused => Err(LiveFault::Refused),
+            Entered::Memory => Err(LiveFault::Memory),
+        }
+    }
+
+    /// Appends a record, and answers the seqnum at which it stands.
+    pub(crate) fn append<R: Wait>(
+        &mut self,
+        rt: &R,
+        desk: &mut Desk<J>,
+        rec: Record,
+    ) -> Result<u64, Memory>
+        ensures ok { IfOk result (λ n. (n ≡ length desk.new) × (desk.new ≡ desk.old ++ (self.old.number, rec) ∷ []) × IsPrefix self.old.known desk.old × (self.new ≡ record self.old { known = desk.new; mine = self.old.mine ++ (length desk.old, (self.old.number, rec)) ∷ [] })) }
+        ensures err { OnErr result ((desk.new ≡ desk.old) × (self.new ≡ self.old)) }
+    {
+        self.own.mine.reserve(1)?;
+        desk.append(rt, self.number, &mut self.place, &mut self.own, rec)
+    }
+
+    /// Is told what is published, and answers how much.
+    pub(crate) fn learn(&mut self, desk: &mut Desk<J>) -> u64
+        ensures list { (desk.new ≡ desk.old) × (result ≡ length desk.old) }
+        ensures same { self.new ≡ record self.old { known = self.new.known } }
+        ensures told { IsPrefix self.old.known self.new.known × IsPrefix desk.old self.new.known }
+    {
+        desk.teach(&mut self.place)
+    }
+
+    /// Compares its appends with the ledger of its number.
+    pub(crate) fn audited(&mut self, tally: &mut Tallies<J>)
+        ensures same { self.new ≡ self.old }
+        ensures tally { (n : ℕ) → total_at tally.new n ≡ total_at tally.old n }
+        ensures exact { length self.old.mine ≡ total_at tally.old self.old.number }
+        ensures number { (1 ≤ self.old.number) × (self.old.number ≤ 16) }
+        ensures rises { Rising self.old.number 0 self.old.mine }
+        ensures stands { EachStands self.old.known self.old.mine }
+    {
+        tally.audit(&mut self.own.right);
+    }
+}
