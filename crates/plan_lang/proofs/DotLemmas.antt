@@ -3,7 +3,6 @@ use Rattle.std.proofs.Common.{◌≡◌, ◌≢◌, ℕ, zero, suc, ◌+◌, ◌
 use Rattle.std.specs.Prelude.{MatchOption}
 use Rattle.std.proofs.lemmas.Bool.Decides.{nat_tests}
 use Rattle.std.proofs.lemmas.Bool.{eq-eqb}
-use Rattle.std.proofs.lemmas.List.{append-nil}
 use Rattle.lb_base.specs.Numeral.{is_numeral, num_of}
 use Rattle.script_lang.proofs.PrintLemmas.{drop_at}
 use Rattle.plan_lang.specs.Fields.{first_piece, with_first, pieces, onto, with_number, numbers_of, numbers_in, part_of, with_part, parts_of}

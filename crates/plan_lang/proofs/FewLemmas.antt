@@ -1,5 +1,5 @@
 -- No more functions than the limit are read.
-use Rattle.std.proofs.Common.{◌≡◌, ℕ, ◌+◌, ◌<◌, ◌≤◌, ◌^◌, Bool, true, false, cond, List, [], ◌∷◌, ◌++◌, length, Option, Some, None, Result, Ok, Err, refl, sym, ap, ◌∙◌, subst, arith, length-append}
+use Rattle.std.proofs.Common.{◌≡◌, ℕ, ◌<◌, ◌≤◌, ◌^◌, Bool, true, false, cond, List, [], ◌∷◌, length, Option, Some, None, Result, Ok, Err, refl, subst, arith, length-append}
 use Rattle.std.specs.Prelude.{nat_lt, IfOk, codes}
 use Rattle.std.proofs.lemmas.Bool.Decides.{nat_tests}
 use Rattle.lb_base.specs.declared.value.Value.{Value}
@@ -31,7 +31,7 @@ use Rattle.plan_lang.specs.declared.heads.Lead.TheVariants as lead
 use Rattle.plan_lang.specs.declared.turns.TurnEntry.{TurnEntry}
 use Rattle.plan_lang.specs.Bodies.{body_line}
 use Rattle.plan_lang.specs.Heads.{with_setup, with_object, with_draft, closed_by, object_line, object_of, setup_of, led_line, lead_at, between_line, due_line, head_line, has_ended}
-use Rattle.plan_lang.specs.Texts.{Takes, spelled_line, read_line, line_at, whole_line, with_head, with_body, plan_by, plan_line}
+use Rattle.plan_lang.specs.Texts.{Takes, read_line, line_at, whole_line, with_head, with_body, plan_by, plan_line}
 use Rattle.plan_lang.specs.Turns.{with_turn, with_turn_head, turn_text_by, turn_line, turn_of}
 
 -- an open function is one of those allowed

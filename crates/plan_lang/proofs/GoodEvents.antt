@@ -1,6 +1,6 @@
 -- An event that is read is one that a plan can have.
-use Rattle.std.proofs.Common.{◌≡◌, ℕ, zero, suc, ◌+◌, ◌-◌, ◌^◌, ◌≤◌, Bool, true, false, cond, List, [], ◌∷◌, length, Option, Some, None, option_map, refl, sym, ap, ◌∙◌, subst, arith, pos, neg_ℤ}
-use Rattle.std.specs.Prelude.{◌&&◌, option_and_then, unwrap_or, bytes_eq, codes, nat_lt, nat_le, nat_eq, ◌==◌, if◌then◌else◌}
+use Rattle.std.proofs.Common.{◌≡◌, ℕ, zero, suc, ◌-◌, ◌^◌, Bool, true, false, cond, List, [], ◌∷◌, length, Option, Some, None, option_map, refl, ap, ◌∙◌, subst, arith, pos, neg_ℤ}
+use Rattle.std.specs.Prelude.{◌&&◌, option_and_then, unwrap_or, bytes_eq, codes, nat_lt, nat_le, ◌==◌}
 use Rattle.std.specs.List.{list_all}
 use Rattle.std.proofs.lemmas.Bool.Decides.{nat_tests}
 use Rattle.std.proofs.lemmas.Int.{ints}
@@ -28,14 +28,13 @@ use Rattle.script_lang.specs.declared.several.Several.{Several}
 use Rattle.script_lang.specs.Expressions.{is_zero}
 use Rattle.script_lang.specs.Names.{call_fault}
 use Rattle.script_lang.specs.Stream.{taken}
-use Rattle.script_lang.specs.Statements.{Reader, both, map_rated, fine_if, alone, name_at, positive_value, negative_value, minus_value, value_at, several, closed_many, listed_by, listed, needed, need, applied, call_at}
+use Rattle.script_lang.specs.Statements.{both, map_rated, alone, name_at, positive_value, negative_value, minus_value, value_at, several, closed_many, listed_by, listed, need, call_at}
 use Rattle.plan_lang.specs.declared.events.Entry.{Entry}
-use Rattle.plan_lang.specs.declared.events.OfTag.{OfTag}
 use Rattle.plan_lang.specs.declared.verb.Verb.{Verb}
 use Rattle.plan_lang.specs.declared.verb.Verb.TheVariants as w
 use Rattle.plan_lang.specs.Events.{engine_at, attempt_at, request_at, engine_of, attempt_of, tag_of, copy_of, start_of, switch_of, append_of, cond_of, tail_of, settled_of, set_aux_of, get_aux_of, seed_of, number_of, submitted, submit_of, callless, plain, plain_of, plain_by, verb_of, worded, entry_of}
 use Rattle.plan_lang.specs.Fields.{number_at, word_at, mode_at, short_at, path_at, sent_at, tag_at, tags_at}
-use Rattle.plan_lang.proofs.GoodFields.{Fine, At, Whole, FineMany, ManyGood, ModeGood, fine_good, fine_weaker, at_weaker, map_good, both_true, split_true, pair_test, both_good, alone_good, bind_good, number_good, word_good, request_is, mode_good, short_good, path_good, sent_test, sent_good, tag_good, many_good, tags_good}
+use Rattle.plan_lang.proofs.GoodFields.{Fine, At, Whole, FineMany, ManyGood, ModeGood, fine_good, at_weaker, map_good, both_true, split_true, pair_test, both_good, alone_good, bind_good, number_good, word_good, request_is, mode_good, short_good, path_good, sent_test, sent_good, tag_good, many_good, tags_good}
 
 -- Values.
 positive_by : (n : ℕ) (b : Bool) → nat_lt n (2 ^ 63) ≡ b → Fine is_value (cond b (r.Fine (v.Int (pos n))) r.Wide)

@@ -1,15 +1,14 @@
 -- What is read of a line's fields is in range.
-use Rattle.std.proofs.Common.{◌≡◌, ℕ, zero, suc, ◌+◌, ◌-◌, ◌^◌, ◌≤◌, Bool, true, false, cond, ltb, leb, List, [], ◌∷◌, length, Option, Some, None, option_map, refl, sym, ap, ◌∙◌, subst, arith}
+use Rattle.std.proofs.Common.{◌≡◌, ℕ, zero, suc, ◌+◌, ◌-◌, ◌^◌, ◌≤◌, Bool, true, false, cond, List, [], ◌∷◌, length, Option, Some, None, option_map, refl, arith}
 use Rattle.std.specs.Prelude.{◌&&◌, option_and_then, bytes_eq, codes, nat_lt, nat_le}
 use Rattle.std.specs.List.{list_all}
 use Rattle.std.proofs.lemmas.Bool.Decides.{nat_tests}
-use Rattle.std.proofs.lemmas.Int.{ints}
 use Rattle.lb_base.specs.declared.value.Mode.{Mode}
 use Rattle.lb_base.specs.declared.value.Mode.TheVariants as mode
 use Rattle.lb_base.specs.declared.value.Tag.{Tag}
-use Rattle.lb_base.specs.Path.{is_path, path_of, is_request}
+use Rattle.lb_base.specs.Path.{is_path, is_request}
 use Rattle.boki_model.specs.Bodies.{is_target}
-use Rattle.boki_model.specs.Plans.{from_to, is_user_tag, are_user_tags, is_text, is_word, is_one_of}
+use Rattle.boki_model.specs.Plans.{from_to, is_user_tag, are_user_tags, is_text, is_word}
 use Rattle.script_lang.specs.declared.token.Mark.TheVariants as m
 use Rattle.script_lang.specs.declared.token.Token.{Token}
 use Rattle.script_lang.specs.declared.token.Token.TheVariants as t
@@ -18,7 +17,7 @@ use Rattle.script_lang.specs.declared.rated.Rated.TheVariants as r
 use Rattle.script_lang.specs.declared.several.Several.{Several}
 use Rattle.script_lang.specs.Stream.{behind, taken}
 use Rattle.script_lang.specs.Statements.{Reader, both, map_rated, fine_if, alone, numeral_at, text_at, cons, one_more, more_by, many_on, many, several, few}
-use Rattle.plan_lang.specs.Fields.{number_by, number_at, word_at, mode_of, mode_at, short_at, path_by, path_in, path_at, parts_of, rated_by, numbers_in, sent_of, sent_at, tag_by, tag_at, tags_at}
+use Rattle.plan_lang.specs.Fields.{number_by, number_at, word_at, mode_at, short_at, path_by, path_in, path_at, parts_of, rated_by, numbers_in, sent_of, sent_at, tag_by, tag_at, tags_at}
 
 -- what is in range passes a test
 abbrev pub Fine : {A : Type 0} → (A → Bool) → Rated A → Type 0

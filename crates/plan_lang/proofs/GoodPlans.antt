@@ -1,7 +1,7 @@
 -- A plan that is read is within all limits.
-use Rattle.std.proofs.Common.{◌≡◌, ℕ, zero, suc, ◌+◌, ◌*◌, ◌<◌, ◌≤◌, Bool, true, false, cond, List, [], ◌∷◌, ◌++◌, length, map, Option, Some, None, Result, Ok, Err, refl, sym, ap, ◌∙◌, subst, append_assoc, arith}
+use Rattle.std.proofs.Common.{◌≡◌, ℕ, ◌+◌, ◌*◌, ◌≤◌, Bool, true, false, cond, List, [], ◌∷◌, ◌++◌, length, map, Option, Some, None, Result, Ok, Err, refl, sym, ap, ◌∙◌, subst, append_assoc, arith}
 use Rattle.std.specs.Prelude.{◌&&◌, ◌||◌, not, IfOk, option_and_then, bytes_eq, codes, nat_le, nat_lt, get_or, drop}
-use Rattle.std.specs.List.{list_all, list_any}
+use Rattle.std.specs.List.{list_all}
 use Rattle.std.proofs.lemmas.Bool.Decides.{nat_tests}
 use Rattle.std.proofs.lemmas.List.{append-nil}
 use Rattle.lb_base.specs.declared.value.Mode.{Mode}
@@ -30,7 +30,7 @@ use Rattle.script_lang.specs.declared.token.Token.TheVariants as t
 use Rattle.script_lang.specs.Functions.{draft_line, is_inside}
 use Rattle.script_lang.specs.Lines.{line_of, lines_in, text_in}
 use Rattle.script_lang.specs.Names.{is_among, name_fault, or_else}
-use Rattle.script_lang.specs.Statements.{both, fine_if, alone, map_rated, text_at, value_at}
+use Rattle.script_lang.specs.Statements.{both, fine_if, alone, text_at, value_at}
 use Rattle.script_lang.proofs.GoodTokens.{GoodTokens}
 use Rattle.script_lang.proofs.GoodDrafts.{GoodDraft, GoodStage, no_draft_good, stage_good, line_good}
 use Rattle.script_lang.proofs.GoodNames.{functions_pass}
@@ -44,12 +44,12 @@ use Rattle.plan_lang.specs.declared.heads.Due.TheVariants as due
 use Rattle.plan_lang.specs.declared.heads.Head.{Head}
 use Rattle.plan_lang.specs.declared.heads.Lead.{Lead}
 use Rattle.plan_lang.specs.declared.heads.Lead.TheVariants as lead
-use Rattle.plan_lang.specs.Bodies.{times_of, opened, opened_by, within, counted, closed_by, closed, first_fault, grown, added, placed, heard, worded_line, body_line, no_body}
+use Rattle.plan_lang.specs.Bodies.{times_of, opened, opened_by, counted, closed_by, closed, first_fault, added, placed, heard, body_line, no_body}
 use Rattle.plan_lang.specs.Events.{worded}
 use Rattle.plan_lang.specs.Fields.{number_at, mode_at}
-use Rattle.plan_lang.specs.Heads.{newer_of, checked, setup_made, setup_behind, setup_of, object_of, with_setup, with_object, with_draft, closed_by as head_closed, object_line, led_line, lead_of, lead_rest, lead_at, between_line, due_line, head_line, no_head, has_ended, objects_fault}
-use Rattle.plan_lang.specs.Texts.{Takes, line_by, line_at, spelled_line, read_line, whole_line, goes_on, lines_from, scan, with_head, with_body, plan_by, plan_line, no_plan, head_fault, plan_made, plan_named, stopped, plan_ended, plan_finished, plan_in, plan_of, refuse}
-use Rattle.plan_lang.proofs.GoodFields.{Fine, At, Whole, fine_good, fine_weaker, map_good, both_true, split_true, pair_test, both_good, alone_good, bind_good, number_good, ModeGood, mode_good}
+use Rattle.plan_lang.specs.Heads.{newer_of, checked, setup_made, setup_behind, setup_of, object_of, with_setup, with_object, with_draft, closed_by as head_closed, object_line, led_line, lead_of, lead_rest, between_line, due_line, head_line, no_head, has_ended, objects_fault}
+use Rattle.plan_lang.specs.Texts.{line_by, spelled_line, read_line, whole_line, goes_on, lines_from, scan, with_head, with_body, plan_by, plan_line, no_plan, head_fault, plan_made, plan_named, stopped, plan_finished, plan_in, plan_of, refuse}
+use Rattle.plan_lang.proofs.GoodFields.{Fine, At, Whole, fine_good, both_true, split_true, pair_test, both_good, alone_good, bind_good, number_good, ModeGood, mode_good}
 use Rattle.plan_lang.proofs.GoodEvents.{value_good, sound, sound_event, worded_good}
 use Rattle.plan_lang.proofs.ObjectLemmas.{flip}
 

@@ -1,16 +1,13 @@
 -- A text, line by line.
-use Rattle.std.proofs.Common.{◌≡◌, ℕ, ◌+◌, ◌<◌, ◌≤◌, List, [], ◌∷◌, length, Option, Some, None, Result, Ok, Err, refl, sym, ap, subst, ◌∙◌, arith}
+use Rattle.std.proofs.Common.{◌≡◌, ℕ, ◌+◌, ◌<◌, ◌≤◌, List, [], ◌∷◌, length, Some, None, Result, Ok, Err, refl, sym, ap, subst, ◌∙◌, arith}
 use Rattle.std.proofs.lemmas.Bool.Decides.{nat_tests}
-use Rattle.boki_types.specs.declared.kind.Kind.{Kind}
 use Rattle.boki_types.specs.declared.kind.Kind.TheVariants as kind
-use Rattle.boki_types.specs.declared.plan.Plan.{Plan}
-use Rattle.boki_types.specs.declared.turn.TurnText.{TurnText}
-use Rattle.script_lang.specs.Lines.{first_line, lines_in}
+use Rattle.script_lang.specs.Lines.{first_line}
 use Rattle.script_lang.proofs.LineLemmas.{line_then}
 use Rattle.plan_lang.specs.declared.fault.PlanFault.{PlanFault}
 use Rattle.plan_lang.specs.declared.fault.PlanFault.TheVariants as faults
-use Rattle.plan_lang.specs.Texts.{Takes, scan, lines_from, goes_on, whole_line, cut_line, refuse, Fails, AddFails, Gives, plan_line, no_plan, plan_finished, plan_in, plan_of}
-use Rattle.plan_lang.specs.Turns.{turn_line, no_turns, turns_finished, turns_in, turns_of}
+use Rattle.plan_lang.specs.Texts.{Takes, scan, lines_from, goes_on, whole_line, cut_line, refuse, Fails, AddFails, Gives, plan_finished, plan_in, plan_of}
+use Rattle.plan_lang.specs.Turns.{turns_finished, turns_in, turns_of}
 
 pub scan_line : {D : Type 0} (take : Takes D) (most n : ℕ) (text line after : List ℕ) (d : D) → Some (line, after) ≡ first_line text → scan take most n text d ≡ goes_on (λ b. scan take most (n + 1) after b) n (whole_line take most n line d)
 scan_line take most n text line after d e =

@@ -1,11 +1,9 @@
 -- The event of a line.
-use Rattle.std.specs.Prelude.{ℕ, ◌+◌, List, [], ◌∷◌, length, Option, Some, None, option_and_then, option_map, unwrap_or, if◌then◌else◌, bytes_eq, codes}
-use Rattle.lb_base.specs.declared.value.Mode.{Mode}
+use Rattle.std.specs.Prelude.{ℕ, List, ◌∷◌, length, Option, Some, None, option_map, unwrap_or, if◌then◌else◌, bytes_eq, codes}
 use Rattle.lb_base.specs.declared.value.Tag.{Tag}
 use Rattle.lb_base.specs.declared.value.Value.{Value}
 use Rattle.boki_types.specs.declared.event.Event.{Event}
 use Rattle.boki_types.specs.declared.event.Event.TheVariants as v
-use Rattle.boki_types.specs.declared.kind.Kind.{Kind}
 use Rattle.boki_types.specs.declared.plan.Setup.{Setup}
 use Rattle.boki_types.specs.declared.program.Function.{Function}
 use Rattle.boki_types.specs.Finding.{find}

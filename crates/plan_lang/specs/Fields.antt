@@ -1,5 +1,5 @@
 -- What stands behind the word of a line: numbers in a range, modes, paths, tags and texts, from tokens.
-use Rattle.std.specs.Prelude.{ℕ, ◌+◌, ◌-◌, ◌^◌, Bool, true, false, ◌&&◌, List, [], ◌∷◌, length, Option, Some, None, option_and_then, option_map, ◌==◌, nat_le, nat_lt, if◌then◌else◌, bytes_eq, codes}
+use Rattle.std.specs.Prelude.{ℕ, ◌-◌, ◌^◌, ◌&&◌, List, [], ◌∷◌, length, Option, Some, None, option_and_then, option_map, ◌==◌, nat_le, nat_lt, if◌then◌else◌, bytes_eq, codes}
 use Rattle.lb_base.specs.declared.value.Mode.{Mode}
 use Rattle.lb_base.specs.declared.value.Mode.TheVariants as mode
 use Rattle.lb_base.specs.declared.value.Tag.{Tag}

@@ -1,5 +1,5 @@
 -- The plan of so many transfers between ten accounts.
-use Rattle.std.specs.Prelude.{ℕ, zero, suc, ◌+◌, ◌*◌, ◌/◌, ◌%◌, pos, List, [], ◌∷◌, ◌++◌, Option, None, codes}
+use Rattle.std.specs.Prelude.{ℕ, zero, suc, ◌+◌, ◌/◌, ◌%◌, pos, List, [], ◌∷◌, ◌++◌, None, codes}
 use Rattle.std.specs.Fmt.{decimal}
 use Rattle.lb_base.specs.declared.value.Mode.TheVariants as mode
 use Rattle.lb_base.specs.declared.value.Value.{Value}
@@ -10,7 +10,6 @@ use Rattle.boki_types.specs.declared.expr.Expr.TheVariants as e
 use Rattle.boki_types.specs.declared.plan.Item.{Item}
 use Rattle.boki_types.specs.declared.plan.Item.TheVariants.{One, Repeat}
 use Rattle.boki_types.specs.declared.plan.Plan.{Plan}
-use Rattle.boki_types.specs.declared.plan.Setup.{Setup}
 use Rattle.boki_types.specs.declared.program.Function.{Function}
 use Rattle.boki_types.specs.declared.program.Stmt.{Stmt}
 use Rattle.boki_types.specs.declared.program.Stmt.TheVariants as s

@@ -1,5 +1,4 @@
-use Rattle.std.proofs.Common.{◌≡◌, ◌∙◌, ◌+◌, ◌<◌, Some, sym, ap, Option, ℕ, true, false, bytes_eq, length, arith}
-use Rattle.boki_types.specs.Finding.{find as find_function}
+use Rattle.std.proofs.Common.{◌≡◌, ◌∙◌, ◌<◌, Some, sym, ap, true, false, bytes_eq, length, arith}
 use Rattle.boki_types.proofs.FindingLemmas.{behind, found_here, found_later}
 use Rattle.plan_lang.proofs.entries.find_function.Goals as goal
 

@@ -1,4 +1,4 @@
-use Rattle.std.proofs.Common.{◌≡◌, ◌+◌, drop}
+use Rattle.std.proofs.Common.{◌≡◌, drop}
 use Rattle.boki_types.specs.Finding.{find as find_function}
 use Rattle.boki_types.proofs.FindingLemmas.{behind}
 use Rattle.plan_lang.proofs.entries.find_function.Given as goal

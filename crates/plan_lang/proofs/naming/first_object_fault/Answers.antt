@@ -1,6 +1,4 @@
-use Rattle.std.proofs.Common.{◌≡◌, ◌+◌, ◌<◌, ◌++◌, ◌∷◌, [], List, ℕ, Bool, true, false, not, length, bytes_eq, refl, sym, ap, ◌∙◌, arith}
-use denote.Ref.{Bor}
-use Rattle.std.specs.HashSet.{contains}
+use Rattle.std.proofs.Common.{◌≡◌, ◌<◌, ◌++◌, ◌∷◌, [], List, ℕ, Bool, true, false, not, length, refl, sym, ap, ◌∙◌, arith}
 use Rattle.lb_base.specs.declared.value.Value.{Value}
 use Rattle.script_lang.specs.Names.{is_among}
 use Rattle.plan_lang.proofs.ObjectLemmas.{names_to, names_more, fault_later, among_more}

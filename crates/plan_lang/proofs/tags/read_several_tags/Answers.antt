@@ -1,9 +1,5 @@
-use Rattle.std.proofs.Common.{◌≡◌, ◌+◌, ◌-◌, ℕ, List, Option, Some, suc, length, sym, ap, ◌∙◌, subst, arith}
-use Rattle.script_lang.specs.declared.token.Token.{Token}
-use Rattle.script_lang.specs.declared.rated.Rated.{Rated}
-use Rattle.script_lang.specs.declared.several.Several.{Several}
-use Rattle.script_lang.specs.Statements.{many, several}
-use Rattle.script_lang.specs.Lists.{snoc}
+use Rattle.std.proofs.Common.{◌≡◌, ◌+◌, ◌-◌, Some, suc, sym, ap, ◌∙◌, arith}
+use Rattle.script_lang.specs.Statements.{many}
 use Rattle.plan_lang.specs.Fields.{tag_at}
 use Rattle.script_lang.proofs.ListLemmas.{behind_several, comma_behind, last_behind, none_behind}
 use Rattle.plan_lang.proofs.tags.read_several_tags.Goals as goal
