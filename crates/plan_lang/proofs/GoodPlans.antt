@@ -54,11 +54,11 @@ use Rattle.plan_lang.proofs.GoodEvents.{value_good, sound, sound_event, worded_g
 use Rattle.plan_lang.proofs.ObjectLemmas.{flip}
 
 -- Objects whose names differ.
-not_true : (b : Bool) → not b ≡ true → b ≡ false
+pub not_true : (b : Bool) → not b ≡ true → b ≡ false
 not_true true e = absurd (cc)
 not_true false e = refl
 
-split_or : (a b : Bool) → (a || b) ≡ false → (a ≡ false) × (b ≡ false)
+pub split_or : (a b : Bool) → (a || b) ≡ false → (a ≡ false) × (b ≡ false)
 split_or true b h = absurd (cc)
 split_or false b h = (refl, h)
 

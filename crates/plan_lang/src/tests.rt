@@ -1,18 +1,46 @@
 use crate::{
-    Event, Kind, PlanFault, Report, Turn, make_plan, parse_plan, parse_turns, print_event,
-    print_plan, print_report, print_turn, valid,
+    Event, Plan, PlanFault, Report, Turn, TurnText, make_plan, parse_plan, parse_turns,
+    print_event, print_plan, print_report, print_turn, valid,
 };
 use lb_base::{List, Memory, Mode, Outcome, Path, Tag, Value, Words};
 use std::alloc::Global;
 use std::test::Fail;
 
 /// Where and why a text of a plan is refused, as `LINE KIND`; nothing where it isn't.
-fn refusal(alloc: Global, text: &str) -> Result<String, Memory> {
-    match parse_plan(alloc, text.as_bytes()) {
+fn refusal_of(alloc: Global, bytes: &[u8]) -> Result<String, Memory> {
+    match parse_plan(alloc, bytes) {
         Ok(_) => Ok(String::new(alloc)),
         Err(PlanFault::Refused { line, kind }) => Ok(format!(in alloc; "{line} {kind}")?),
         Err(PlanFault::Memory) => Err(Memory),
     }
+}
+
+fn refusal(alloc: Global, text: &str) -> Result<String, Memory> {
+    refusal_of(alloc, text.as_bytes())
+}
+
+/// The plan of a text that is accepted.
+fn accepted(alloc: Global, text: &str) -> Result<Plan, Memory> {
+    match parse_plan(alloc, text.as_bytes()) {
+        Ok(plan) => Ok(plan),
+        Err(_) => Err(Memory),
+    }
+}
+
+/// The turns of a text that is accepted.
+fn accepted_turns(alloc: Global, text: &str) -> Result<TurnText, Memory> {
+    match parse_turns(alloc, text.as_bytes()) {
+        Ok(text) => Ok(text),
+        Err(_) => Err(Memory),
+    }
+}
+
+/// The text of the generator's plan.
+fn generated(alloc: Global, n: u32) -> Result<Words, Memory> {
+    if n == 0 || n > 4000 {
+        return Err(Memory);
+    }
+    print_plan(alloc, &make_plan(alloc, n)?)
 }
 
 const HEAD: &str = "\
@@ -32,12 +60,9 @@ fn event_refusal(alloc: Global, line: &str) -> Result<String, Memory> {
     refusal(alloc, text.as_str())
 }
 
-/// The text that a plan's text is printed as again; nothing where it is refused.
+/// The text that a plan's text is printed as again.
 fn printed(alloc: Global, text: &str) -> Result<Words, Memory> {
-    match parse_plan(alloc, text.as_bytes()) {
-        Ok(plan) => print_plan(alloc, &plan),
-        Err(_) => Ok(Words::new(alloc)),
-    }
+    print_plan(alloc, &accepted(alloc, text)?)
 }
 
 /// Lines that are no events, with `|` between them.
@@ -111,12 +136,7 @@ fn refuses_texts(rt: HostRuntime) -> Result<(), Fail> {
         let text = with_feeds(alloc, text)?;
         assert_eq!(rt; refusal(alloc, text.as_str())?.as_str(), want, "at {entry}");
     }
-    let found = parse_plan(alloc, &[255, 10]).err();
-    let want = PlanFault::Refused {
-        line: 1,
-        kind: Kind::Utf8,
-    };
-    assert_eq!(rt; found, Some(want));
+    assert_eq!(rt; refusal_of(alloc, &[255, 10])?.as_str(), "1 utf8");
     Ok(())
 }
 
@@ -244,8 +264,7 @@ fn prints_plans(rt: HostRuntime) -> Result<(), Fail> {
     let alloc = rt.alloc();
     assert_eq!(rt; printed(alloc, DEMO)?.as_str(), DEMO_PRINTED);
     assert_eq!(rt; printed(alloc, ALL)?.as_str(), ALL);
-    let made = make_plan(alloc, 1)?;
-    assert_eq!(rt; print_plan(alloc, &made)?.as_str(), ONE_MOVE);
+    assert_eq!(rt; generated(alloc, 1)?.as_str(), ONE_MOVE);
     Ok(())
 }
 
@@ -265,9 +284,7 @@ const TURNS: &str = "\
 #[test]
 fn reads_turns(rt: HostRuntime) -> Result<(), Fail> {
     let alloc = rt.alloc();
-    let Ok(text) = parse_turns(alloc, TURNS.as_bytes()) else {
-        return Err(Fail::from(Memory));
-    };
+    let text = accepted_turns(alloc, TURNS)?;
     let turns = text.turns.as_slice();
     assert_eq!(rt; turns.len(), 3);
     assert_eq!(rt; (turns[0].0, turns[1].0, turns[2].0), (7, 8, 10));
@@ -292,9 +309,7 @@ const REPORT: &str = "\
 #[test]
 fn prints_a_report(rt: HostRuntime) -> Result<(), Fail> {
     let alloc = rt.alloc();
-    let Ok(text) = parse_turns(alloc, TURNS.as_bytes()) else {
-        return Err(Fail::from(Memory));
-    };
+    let text = accepted_turns(alloc, TURNS)?;
     let path = Path::request(1).ok_or("no path")?;
     let mut report = Report {
         turns: List::new(alloc),
@@ -325,9 +340,7 @@ fn prints_a_report(rt: HostRuntime) -> Result<(), Fail> {
 #[test]
 fn tells_valid_events(rt: HostRuntime) -> Result<(), Fail> {
     let alloc = rt.alloc();
-    let Ok(plan) = parse_plan(alloc, ALL.as_bytes()) else {
-        return Err(Fail::from(Memory));
-    };
+    let plan = accepted(alloc, ALL)?;
     assert!(rt; valid(&Event::Catch { engine: 4 }, &plan));
     assert!(rt; !valid(&Event::Catch { engine: 5 }, &plan));
     assert!(rt;
