@@ -247,19 +247,34 @@ fn bad_texts_are_refused_by_line_and_kind(rt: HostRuntime) -> Result<(), Fail> {
     let (head, _) = first.split_at(first.len().min(77));
     let texts: [(&[u8], &str); 14] = [
         (b"setup 1 1 17 R\nevents\n", "refused 1 range\n"),
-        (b"setup 1 1 1 R\nevents\nsubmit 1 1 nobody()\n", "refused 3 name\n"),
-        (b"setup 1 1 1 R\nfunction f(a)\nend\nevents\nsubmit 1 1 f()\n", "refused 5 arity\n"),
+        (
+            b"setup 1 1 1 R\nevents\nsubmit 1 1 nobody()\n",
+            "refused 3 name\n",
+        ),
+        (
+            b"setup 1 1 1 R\nfunction f(a)\nend\nevents\nsubmit 1 1 f()\n",
+            "refused 5 arity\n",
+        ),
         (b"setup 1 1 1 R\nevents", "refused 2 truncated\n"),
         (b"setup 1 1 1 R\n", "refused 2 end\n"),
         (b"", "refused 1 end\n"),
         (whole, "refused 21 truncated\n"),
         (head, "refused 6 end\n"),
         (&[255, 10], "refused 1 utf8\n"),
-        (b"setup 1 1 1 R\nevents\nrepeat 200000\ncut\ncut\nend\n", "refused 6 events\n"),
-        (b"setup 1 1 1 R\nobject \"x\" 1\nobject \"x\" 2\nevents\n", "refused 3 name\n"),
+        (
+            b"setup 1 1 1 R\nevents\nrepeat 200000\ncut\ncut\nend\n",
+            "refused 6 events\n",
+        ),
+        (
+            b"setup 1 1 1 R\nobject \"x\" 1\nobject \"x\" 2\nevents\n",
+            "refused 3 name\n",
+        ),
         (b"setup 1 1 1 R\nevents\ncatch 2\n", "refused 3 range\n"),
         (b"setup 1 1 1 R\nevent\n", "refused 2 syntax\n"),
-        (b"setup 1 1 1 R\nevents\nsubmit 1 1 f(99999999999999999999)\n", "refused 3 range\n"),
+        (
+            b"setup 1 1 1 R\nevents\nsubmit 1 1 f(99999999999999999999)\n",
+            "refused 3 range\n",
+        ),
     ];
     for (text, line) in texts {
         for word in ["run", "check"] {

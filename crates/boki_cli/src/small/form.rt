@@ -82,12 +82,14 @@ fn submits(item: &Item) -> bool
     ensures { result ≡ submits_in item.now }
 {
     match item {
-        Item::One(Event::Submit {
-            engine: _,
-            request: _,
-            function: _,
-            args: _,
-        }) => true,
+        Item::One(
+            Event::Submit {
+                engine: _,
+                request: _,
+                function: _,
+                args: _,
+            },
+        ) => true,
         _ => false,
     }
 }
@@ -96,11 +98,13 @@ fn starts(item: &Item) -> bool
     ensures { result ≡ starts_in item.now }
 {
     match item {
-        Item::One(Event::Start {
-            attempt: _,
-            path: _,
-            engine: _,
-        }) => true,
+        Item::One(
+            Event::Start {
+                attempt: _,
+                path: _,
+                engine: _,
+            },
+        ) => true,
         _ => false,
     }
 }

@@ -213,12 +213,7 @@ impl Attempt {
     }
 
     /// Does one step.
-    fn step(
-        &mut self,
-        alloc: Global,
-        program: &Program,
-        log: &mut Log,
-    ) -> Result<StepLine, Memory>
+    fn step(&mut self, alloc: Global, program: &Program, log: &mut Log) -> Result<StepLine, Memory>
         requires few { length program.now.functions < 2 ^ 32 }
     {
         if self.over {
@@ -229,11 +224,13 @@ impl Attempt {
             return Ok(StepLine::Over(outcome.clone()?));
         }
         match log.view().first() {
-            Some(Record::Submit {
-                request,
-                function,
-                args,
-            }) if is_of(self.path, *request) => {
+            Some(
+                Record::Submit {
+                    request,
+                    function,
+                    args,
+                },
+            ) if is_of(self.path, *request) => {
                 if let Some(record) = log.view().get(self.next) {
                     return self.adopt(alloc, program, *function, args.as_slice(), record);
                 }
@@ -279,12 +276,7 @@ impl Attempt {
     }
 
     /// Does what its script asks for, with nothing to adopt and nothing waiting.
-    fn act(
-        &mut self,
-        alloc: Global,
-        program: &Program,
-        log: &mut Log,
-    ) -> Result<StepLine, Memory>
+    fn act(&mut self, alloc: Global, program: &Program, log: &mut Log) -> Result<StepLine, Memory>
         requires few { length program.now.functions < 2 ^ 32 }
     {
         let Some(frame) = &mut self.frame else {
@@ -359,12 +351,7 @@ impl Machine {
     }
 
     /// Does an event of a plan of the small form, with this program.
-    pub fn event(
-        &mut self,
-        alloc: Global,
-        program: &Program,
-        event: &Event,
-    ) -> Result<Line, Memory>
+    pub fn event(&mut self, alloc: Global, program: &Program, event: &Event) -> Result<Line, Memory>
         requires few { length program.now.functions < 2 ^ 32 }
     {
         self.done = self.done.saturating_add(1);

@@ -101,11 +101,13 @@ pub fn report_of(alloc: Global, log: &Log) -> Result<Report, Memory> {
     };
     let records = log.ordered();
     // The first record is the request's, and all others are of its invocation.
-    if let Some(Record::Submit {
-        request,
-        function: _,
-        args: _,
-    }) = records.first()
+    if let Some(
+        Record::Submit {
+            request,
+            function: _,
+            args: _,
+        },
+    ) = records.first()
         && let Some(path) = Path::request(*request)
     {
         report.turns = turns_of(alloc, path, records)?;
