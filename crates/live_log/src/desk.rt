@@ -75,15 +75,16 @@ impl<J: Naming> Desk<J> {
         Ok(self.hall.len())
     }
 
-    /// Tells an engine what is published, and answers how much.
+    /// Tells an engine what is published, and answers how much it was told in all, which is what is published.
     pub(crate) fn teach(&mut self, place: &mut Place) -> u64
         requires { place.old.book ≡ J.book }
-        ensures list { (self.new ≡ self.old) × (result ≡ length self.old) }
+        ensures list { self.new ≡ self.old }
+        ensures answer { result ≡ length place.new.known }
         ensures same { place.new ≡ record place.old { known = place.new.known } }
         ensures told { IsPrefix place.old.known place.new.known × IsPrefix self.old place.new.known }
     {
         place.learn(self.hall.front());
-        self.hall.len()
+        place.told()
     }
 
     /// Waits for the readers, and gives the list with the ledgers.

@@ -182,7 +182,8 @@ impl<J: Naming> LiveEngine<J> {
 
     /// Is told what is published, and answers how much.
     pub(crate) fn learn(&mut self, desk: &mut Desk<J>) -> u64
-        ensures list { (desk.new ≡ desk.old) × (result ≡ length desk.old) }
+        ensures list { desk.new ≡ desk.old }
+        ensures answer { result ≡ length self.new.known }
         ensures same { self.new ≡ record self.old { known = self.new.known } }
         ensures told { IsPrefix self.old.known self.new.known × IsPrefix desk.old self.new.known }
     {

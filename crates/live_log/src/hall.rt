@@ -193,6 +193,13 @@ fn follow(alloc: Global, list: &[Appended], copy: &mut List<Appended>) -> Result
 }
 
 impl Place {
+    /// How much it has seen or was told.
+    pub(crate) fn told(&self) -> u64
+        ensures { result ≡ length self.now.known }
+    {
+        self.known.len()
+    }
+
     /// Is told what is published.
     #[tactic(auto, using(crate::proofs::Lists::prefix_trans))]
     pub(crate) fn learn(&mut self, front: &Front)

@@ -51,7 +51,7 @@ pub enum CloseFault<J: Naming> {
     Memory(LiveLog<J>, Vec<LiveEngine<J>>),
     /// The door refused.
     Refused(LiveLog<J>, Vec<LiveEngine<J>>),
-    /// An engine has a position above the length of the list. No log of this crate is known to come to this.
+    /// An engine has a position above the length of the list. That isn't known to come.
     Ahead {
         /// The number of the first such engine.
         engine: u32,
@@ -169,7 +169,7 @@ impl<J: Naming> LiveLog<J> {
     /// Tells the engine what is published, and answers how many records that are. It takes the lock, for which it may wait, and no
     /// memory, so it is always Ok. Each later `catch_up` of the engine that is Ok covers them.
     pub fn learn<R: Wait>(&self, rt: &R, who: &mut LiveEngine<J>) -> Result<u64, Memory>
-        ensures { IsOkAnd result (λ n. (list : Items Appended) × (n ≡ length list) × IsPrefix list who.new.known × IsPrefix who.old.known who.new.known × (who.new ≡ record who.old { known = who.new.known })) }
+        ensures { IsOkAnd result (λ n. (n ≡ length who.new.known) × IsPrefix who.old.known who.new.known × (who.new ≡ record who.old { known = who.new.known })) }
     {
         Ok(who.learn(&mut *self.desk.lock(rt)))
     }
