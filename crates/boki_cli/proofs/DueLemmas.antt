@@ -1,9 +1,14 @@
--- A sink grows, one call after another.
-use Rattle.std.proofs.Common.{ℕ, ◌<◌, List, [], ◌++◌, length, Option, Some, None}
+-- A sink grows, one call after another; and calls of `run` that end before anything is written.
+use Rattle.std.proofs.Common.{ℕ, Bool, true, false, List, [], ◌++◌, Option, Some, None, Result, Ok, Err}
 use Rattle.std.specs.Prelude.{IfSome}
-use Rattle.lb_base.specs.Outside.{Appends}
-use Rattle.lb_base.proofs.OutsideLemmas.{Appends-none, Appends-append}
-use Rattle.boki_cli.specs.Due.{Grows, text_limit}
+use Rattle.lb_base.proofs.OutsideLemmas.{Appends-none, Appends-append, AppendsFront-none}
+use Rattle.boki_types.specs.declared.plan.Plan.{Plan}
+use Rattle.plan_lang.specs.declared.fault.PlanFault.{PlanFault}
+use Rattle.plan_lang.specs.declared.fault.PlanFault.TheVariants as faults
+use Rattle.plan_lang.specs.Texts.{plan_of}
+use Rattle.boki_cli.specs.declared.status.Status.TheVariants.{ReadFault, Memory}
+use Rattle.boki_cli.specs.Due.{Grows, Runs, RunsBy, RunsText}
+use Rattle.boki_cli.specs.Small.{is_small}
 
 pub Grows-none : (a : Option (List ℕ)) → Grows a a
 Grows-none a = ([], Appends-none a)
@@ -11,7 +16,30 @@ Grows-none a = ([], Appends-none a)
 pub Grows-append : (a b c : Option (List ℕ)) → Grows a b → Grows b c → Grows a c
 Grows-append a b c h k = (h.0 ++ k.0, Appends-append a b c h.0 k.0 h.1 k.1)
 
--- A sink that wasn't touched has taken nothing, whatever the source tells.
-pub nothing_taken : (o a : Option (List ℕ)) → IfSome o (λ text. text_limit < length text → Appends a a [])
-nothing_taken None a = tt
-nothing_taken (Some text) a = λ h. Appends-none a
+unread_by : (b : Bool) (old : Option (List ℕ)) → RunsBy b ReadFault old old
+unread_by true old = Appends-none old
+unread_by false old = Appends-none old
+
+unread_of : (r : Result Plan PlanFault) (old : Option (List ℕ)) → Runs ReadFault r old old
+unread_of (Ok plan) old = unread_by (is_small plan) old
+unread_of (Err (faults.Refused n k)) old = Appends-none old
+unread_of (Err faults.Memory) old = Appends-none old
+
+-- the source failed
+pub unread : (o old : Option (List ℕ)) → IfSome o (λ text. RunsText ReadFault text old old)
+unread None old = tt
+unread (Some text) old = unread_of (plan_of text) old
+
+no_room_by : (b : Bool) (old : Option (List ℕ)) → RunsBy b Memory old old
+no_room_by true old = Grows-none old
+no_room_by false old = AppendsFront-none old _
+
+no_room_of : (r : Result Plan PlanFault) (old : Option (List ℕ)) → Runs Memory r old old
+no_room_of (Ok plan) old = no_room_by (is_small plan) old
+no_room_of (Err (faults.Refused n k)) old = AppendsFront-none old _
+no_room_of (Err faults.Memory) old = Grows-none old
+
+-- there was no room for the text
+pub no_room : (o old : Option (List ℕ)) → IfSome o (λ text. RunsText Memory text old old)
+no_room None old = tt
+no_room (Some text) old = no_room_of (plan_of text) old

@@ -1,18 +1,41 @@
 //! The program `boki`: stateful serverless functions over a shared log, each run exactly once.
 #![tactic(auto)]
 
+mod check;
 mod edge;
-mod first;
+mod make;
+mod run;
+mod small;
 mod status;
+mod telling;
 #[cfg(test)]
 mod tests;
-mod top;
+mod words;
 
+use crate::check::check_top;
 use crate::edge::{StdSink, StdSource};
+use crate::make::make_top;
+use crate::run::run_top;
 use crate::status::Status;
-use crate::top::run_top;
+use crate::words::Command;
+use lb_base::{Sink, Source};
+use std::alloc::Global;
 use std::env;
 use std::process::ExitCode;
+
+/// The top call that the first word chooses, over any source and sink.
+fn call<S: Source, K: Sink>(
+    alloc: Global,
+    words: &[String],
+    source: &mut S,
+    sink: &mut K,
+) -> Status {
+    match Command::chosen(words) {
+        Command::Run => run_top(alloc, words, source, sink),
+        Command::Check => check_top(alloc, words, source, sink),
+        Command::Make => make_top(alloc, words, source, sink),
+    }
+}
 
 fn main(rt: HostRuntime) -> ExitCode {
     let alloc = rt.alloc();
@@ -27,6 +50,6 @@ fn main(rt: HostRuntime) -> ExitCode {
     }
     let mut source = StdSource::new(rt.stdin());
     let mut sink = StdSink::new(rt.stdout());
-    let status = run_top(alloc, words.as_slice(), &mut source, &mut sink);
+    let status = call(alloc, words.as_slice(), &mut source, &mut sink);
     ExitCode::from(status.code())
 }

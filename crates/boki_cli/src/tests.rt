@@ -2,8 +2,8 @@
 
 ghost use Rattle.std.specs.Prelude.{◌≤◌};
 
+use crate::call;
 use crate::status::Status;
-use crate::top::run_top;
 use boki_types::Kind;
 use lb_base::{MemSink, MemSource, SureSink, SureSource};
 use std::alloc::{AllocError, Global};
@@ -96,6 +96,59 @@ result 1 trap kind
 end
 "#;
 
+/// A plan that isn't in its canonical text.
+const LOOSE: &str = r#"# demo
+setup 1 1 1 R
+
+function f( a )
+ return (a+1)*2
+end
+events
+repeat 2
+cut
+end
+"#;
+
+/// The same plan in its canonical text.
+const CANONICAL: &str = r#"setup 1 1 1 R
+function f(a)
+  return (a + 1) * 2
+end
+events
+repeat 2
+  cut
+end
+"#;
+
+/// What the generator makes of one transfer.
+const ONE_TRANSFER: &str = r#"setup 4 1 4 R
+object "a0" 1000
+object "a1" 1000
+object "a2" 1000
+object "a3" 1000
+object "a4" 1000
+object "a5" 1000
+object "a6" 1000
+object "a7" 1000
+object "a8" 1000
+object "a9" 1000
+function move(a, b, n)
+  let x = read a
+  let y = read b
+  write a, x - n
+  write b, y + n
+  return x - n
+end
+events
+submit 2 1 move("a1", "a2", 1)
+sync
+start 1 1 2
+repeat 12
+  step 1
+  sync
+end
+"#;
+
 const USAGE: &str =
     "usage: boki run [--with I] [--json] | judge | check | make N [--plan] | live\n";
 
@@ -107,12 +160,12 @@ fn words_of(alloc: Global, texts: &[&str]) -> Result<Vec<String>, AllocError> {
     Ok(words)
 }
 
-/// Runs over devices that never fail.
-fn run(alloc: Global, texts: &[&str], text: &str) -> Result<(Status, SureSink), AllocError> {
+/// Calls over devices that never fail.
+fn answer(alloc: Global, texts: &[&str], text: &[u8]) -> Result<(Status, SureSink), AllocError> {
     let words = words_of(alloc, texts)?;
-    let mut source = SureSource::new(Vec::from_slice(alloc, text.as_bytes())?);
+    let mut source = SureSource::new(Vec::from_slice(alloc, text)?);
     let mut sink = SureSink::new(alloc);
-    let status = run_top(alloc, words.as_slice(), &mut source, &mut sink);
+    let status = call(alloc, words.as_slice(), &mut source, &mut sink);
     Ok((status, sink))
 }
 
@@ -129,7 +182,7 @@ fn run_first(
     let text = Vec::from_slice(alloc, FIRST.as_bytes())?;
     let mut source = MemSource::new(text, vec![in alloc; take]?);
     let mut sink = MemSink::new(alloc, most, vec![in alloc; put]?);
-    let status = run_top(alloc, words.as_slice(), &mut source, &mut sink);
+    let status = call(alloc, words.as_slice(), &mut source, &mut sink);
     Ok((status, sink))
 }
 
@@ -138,10 +191,11 @@ fn worked_plans_give_their_lines(rt: HostRuntime) -> Result<(), Fail> {
     let plans = [
         (FIRST, FIRST_LINES),
         (MISSING, MISSING_LINES),
+        (LOOSE, "1 same\n2 same\nreport\nend\n"),
         ("setup 1 1 1 R\nevents\n", "report\nend\n"),
     ];
     for (text, lines) in plans {
-        let (status, sink) = run(rt.alloc(), &["run"], text)?;
+        let (status, sink) = answer(rt.alloc(), &["run"], text.as_bytes())?;
         assert_eq!(rt; status, Status::Done);
         assert_eq!(rt; sink.bytes(), lines.as_bytes());
     }
@@ -149,10 +203,37 @@ fn worked_plans_give_their_lines(rt: HostRuntime) -> Result<(), Fail> {
 }
 
 #[test]
+fn plans_are_printed_in_their_canonical_text(rt: HostRuntime) -> Result<(), Fail> {
+    let calls: [(&[&str], &str, &str); 4] = [
+        (&["check"], FIRST, FIRST),
+        (&["check"], LOOSE, CANONICAL),
+        (&["make", "1", "--plan"], LOOSE, ONE_TRANSFER),
+        (&["make", "--plan", "1"], LOOSE, ONE_TRANSFER),
+    ];
+    for (texts, text, printed) in calls {
+        let (status, sink) = answer(rt.alloc(), texts, text.as_bytes())?;
+        assert_eq!(rt; status, Status::Done);
+        assert_eq!(rt; sink.bytes(), printed.as_bytes());
+    }
+    Ok(())
+}
+
+#[test]
 fn other_words_give_the_usage_line(rt: HostRuntime) -> Result<(), Fail> {
-    let words: [&[&str]; 4] = [&[], &[""], &["run", "--json"], &["judge"]];
+    let words: [&[&str]; 10] = [
+        &[],
+        &[""],
+        &["run", "--json"],
+        &["judge"],
+        &["check", "x"],
+        &["make", "0"],
+        &["make", "4001"],
+        &["make", "5"],
+        &["make", "0", "--plan"],
+        &["make", "--", "5", "--plan"],
+    ];
     for texts in words {
-        let (status, sink) = run(rt.alloc(), texts, FIRST)?;
+        let (status, sink) = answer(rt.alloc(), texts, FIRST.as_bytes())?;
         assert_eq!(rt; status, Status::Usage);
         assert_eq!(rt; sink.bytes(), USAGE.as_bytes());
     }
@@ -160,18 +241,77 @@ fn other_words_give_the_usage_line(rt: HostRuntime) -> Result<(), Fail> {
 }
 
 #[test]
-fn other_texts_are_refused_as_not_built(rt: HostRuntime) -> Result<(), Fail> {
+fn bad_texts_are_refused_by_line_and_kind(rt: HostRuntime) -> Result<(), Fail> {
+    let first = FIRST.as_bytes();
+    let (whole, _) = first.split_at(first.len().saturating_sub(1));
+    let (head, _) = first.split_at(first.len().min(77));
+    let texts: [(&[u8], &str); 14] = [
+        (b"setup 1 1 17 R\nevents\n", "refused 1 range\n"),
+        (
+            b"setup 1 1 1 R\nevents\nsubmit 1 1 nobody()\n",
+            "refused 3 name\n",
+        ),
+        (
+            b"setup 1 1 1 R\nfunction f(a)\nend\nevents\nsubmit 1 1 f()\n",
+            "refused 5 arity\n",
+        ),
+        (b"setup 1 1 1 R\nevents", "refused 2 truncated\n"),
+        (b"setup 1 1 1 R\n", "refused 2 end\n"),
+        (b"", "refused 1 end\n"),
+        (whole, "refused 21 truncated\n"),
+        (head, "refused 6 end\n"),
+        (&[255, 10], "refused 1 utf8\n"),
+        (
+            b"setup 1 1 1 R\nevents\nrepeat 200000\ncut\ncut\nend\n",
+            "refused 6 events\n",
+        ),
+        (
+            b"setup 1 1 1 R\nobject \"x\" 1\nobject \"x\" 2\nevents\n",
+            "refused 3 name\n",
+        ),
+        (b"setup 1 1 1 R\nevents\ncatch 2\n", "refused 3 range\n"),
+        (b"setup 1 1 1 R\nevent\n", "refused 2 syntax\n"),
+        (
+            b"setup 1 1 1 R\nevents\nsubmit 1 1 f(99999999999999999999)\n",
+            "refused 3 range\n",
+        ),
+    ];
+    for (text, line) in texts {
+        for word in ["run", "check"] {
+            let (status, sink) = answer(rt.alloc(), &[word], text)?;
+            assert_eq!(rt; status.code(), 1);
+            assert_eq!(rt; sink.bytes(), line.as_bytes());
+        }
+    }
+    Ok(())
+}
+
+#[test]
+fn a_text_past_the_limit_is_refused_as_a_whole(rt: HostRuntime) -> Result<(), Fail> {
+    let alloc = rt.alloc();
+    let text = vec![in alloc; b'#'; 1_048_577]?;
+    for word in ["run", "check"] {
+        let (status, sink) = answer(alloc, &[word], &text)?;
+        let kind = Kind::Length;
+        assert_eq!(rt; status, Status::Refused { line: 0, kind });
+        assert_eq!(rt; sink.bytes(), b"refused 0 length\n".as_slice());
+    }
+    Ok(())
+}
+
+#[test]
+fn plans_outside_the_small_form_are_not_built(rt: HostRuntime) -> Result<(), Fail> {
     let texts = [
         "setup 1 1 2 R\nevents\n",
-        "",
-        "setup 1 1 1 R\n",
-        "setup 1 1 1 R\nevents",
-        "setup 1 1 1 R\nevents\ncatch 2\n",
-        "setup 1 1 1 R\nfunction f(a)\nreturn b\nend\nevents\n",
-        "setup 1 1 1 R\nfunction f(a)\nend\nevents\nsubmit 1 1 f()\n",
+        "setup 1 1 1 W\nevents\n",
+        "setup 1 1 1 R\nobject \"x\" 1\nevents\n",
+        "setup 1 1 1 R\nfunction f(a)\npush a, a\nend\nevents\n",
+        "setup 1 1 1 R\nevents\nkill 1\n",
+        "setup 1 1 1 R\nevents\nstart 1 1 1\nstart 2 1 1\n",
+        "setup 1 1 1 R\nevents\nrepeat 1\nstart 1 1 1\nend\n",
     ];
     for text in texts {
-        let (status, sink) = run(rt.alloc(), &["run"], text)?;
+        let (status, sink) = answer(rt.alloc(), &["run"], text.as_bytes())?;
         let kind = Kind::NotBuilt;
         assert_eq!(rt; status, Status::Refused { line: 0, kind });
         assert_eq!(rt; sink.bytes(), b"refused 0 notbuilt\n".as_slice());
@@ -191,15 +331,15 @@ fn a_sink_that_takes_5_bytes_a_call_gets_all(rt: HostRuntime) -> Result<(), Fail
 fn a_failing_put_leaves_a_prefix(rt: HostRuntime) -> Result<(), Fail> {
     let lines = FIRST_LINES.as_bytes();
     let mut before = 0;
-    // In pieces of 5 bytes the 22 lines take 70 calls.
-    for k in 1..71u64 {
+    // In pieces of 5 bytes the 14 lines and the report take 66 calls.
+    for k in 1..67u64 {
         let (status, sink) = run_first(rt.alloc(), 5, 0, k)?;
         assert_eq!(rt; status, Status::WriteFault);
         assert!(rt; lines.starts_with(sink.bytes()));
         assert!(rt; k == 1 || before < sink.bytes().len());
         before = sink.bytes().len();
     }
-    let (status, _) = run_first(rt.alloc(), 5, 0, 71)?;
+    let (status, _) = run_first(rt.alloc(), 5, 0, 67)?;
     assert_eq!(rt; status, Status::Done);
     let (_, sink) = run_first(rt.alloc(), 4096, 0, 3)?;
     assert_eq!(rt; sink.bytes(), b"1 sent 1.1\n2 sync 1\n".as_slice());

@@ -1,0 +1,71 @@
+//! What the calls of the program write: the usage line, the line of a refusal, and texts as a whole.
+
+ghost use Rattle.std.specs.Prelude.{◌≡◌, ◌≢◌};
+ghost use Rattle.lb_base.specs.Outside.{Rose};
+ghost use Rattle.boki_cli.specs.Due.{Meets, Wrote, due, printed, refusal, usage};
+
+use crate::status::Status;
+use boki_types::{Kind, Plan};
+use lb_base::{PutFault, Sink, write_line};
+use plan_lang::print_plan;
+use std::alloc::Global;
+
+/// Writes the usage line.
+pub fn tell_usage<K: Sink>(sink: &mut K) -> Status
+    ensures meets { Meets result usage (K.held sink.old) (K.held sink.new) }
+    ensures read { result ≢ Status.ReadFault }
+    ensures write { result ≡ Status.WriteFault → Rose (K.faults sink.old) (K.faults sink.new) }
+{
+    match write_line(
+        sink,
+        b"usage: boki run [--with I] [--json] | judge | check | make N [--plan] | live\n",
+    ) {
+        Ok(()) => Status::Usage,
+        Err(PutFault::Fault) => Status::WriteFault,
+        Err(PutFault::Memory) => Status::Memory,
+    }
+}
+
+/// Writes the line of a refusal.
+pub fn refuse<K: Sink>(alloc: Global, line: u64, kind: Kind, sink: &mut K) -> Status
+    ensures meets { Meets result (refusal line kind) (K.held sink.old) (K.held sink.new) }
+    ensures wrote { Wrote result (K.held sink.old) (K.held sink.new) }
+    ensures other { (result ≢ Status.ReadFault) × (result ≢ Status.Usage) }
+    ensures write { result ≡ Status.WriteFault → Rose (K.faults sink.old) (K.faults sink.new) }
+{
+    let Ok(text) = format!(in alloc; "refused {line} {kind}\n") else {
+        return Status::Memory;
+    };
+    match write_line(sink, text.as_str().as_bytes()) {
+        Ok(()) => Status::Refused { line, kind },
+        Err(PutFault::Fault) => Status::WriteFault,
+        Err(PutFault::Memory) => Status::Memory,
+    }
+}
+
+/// Writes a text that is all that is due.
+fn tell_text<K: Sink>(text: &[u8], sink: &mut K) -> Status
+    ensures meets { Meets result (due Status.Done text.now) (K.held sink.old) (K.held sink.new) }
+    ensures wrote { Wrote result (K.held sink.old) (K.held sink.new) }
+    ensures other { (result ≢ Status.ReadFault) × (result ≢ Status.Usage) }
+    ensures write { result ≡ Status.WriteFault → Rose (K.faults sink.old) (K.faults sink.new) }
+{
+    match write_line(sink, text) {
+        Ok(()) => Status::Done,
+        Err(PutFault::Fault) => Status::WriteFault,
+        Err(PutFault::Memory) => Status::Memory,
+    }
+}
+
+/// Writes the canonical text of a plan.
+pub fn tell_plan<K: Sink>(alloc: Global, plan: &Plan, sink: &mut K) -> Status
+    ensures meets { Meets result (printed plan.now) (K.held sink.old) (K.held sink.new) }
+    ensures wrote { Wrote result (K.held sink.old) (K.held sink.new) }
+    ensures other { (result ≢ Status.ReadFault) × (result ≢ Status.Usage) }
+    ensures write { result ≡ Status.WriteFault → Rose (K.faults sink.old) (K.faults sink.new) }
+{
+    match print_plan(alloc, plan) {
+        Ok(text) => tell_text(text.as_bytes(), sink),
+        Err(_) => Status::Memory,
+    }
+}

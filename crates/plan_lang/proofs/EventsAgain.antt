@@ -1,0 +1,417 @@
+-- The printed line of an event is read again as the event.
+use Rattle.std.proofs.Common.{◌≡◌, ℕ, zero, suc, ◌+◌, ◌-◌, ◌<◌, ◌≤◌, ◌^◌, Bool, true, false, cond, List, [], ◌∷◌, ◌++◌, length, map, Option, Some, None, option_map, unwrap_or, refl, sym, ap, ◌∙◌, subst, arith}
+use Rattle.std.specs.Prelude.{◌&&◌, ◌==◌, not, option_and_then, bytes_eq, codes, nat_lt, nat_le}
+use Rattle.std.specs.List.{list_all}
+use Rattle.std.specs.Fmt.{decimal}
+use Rattle.std.proofs.lemmas.Bool.Decides.{nat_tests}
+use Rattle.std.proofs.lemmas.List.{append-nil}
+use Rattle.std.proofs.lemmas.Slice.Eq.{bytes_eq-Decides}
+use Rattle.lb_base.specs.declared.value.Mode.{Mode}
+use Rattle.lb_base.specs.declared.value.Mode.TheVariants as mode
+use Rattle.lb_base.specs.declared.value.Tag.{Tag}
+use Rattle.lb_base.specs.declared.value.Value.{Value}
+use Rattle.lb_base.specs.Path.{is_path, is_request}
+use Rattle.lb_base.specs.Print.{path_text, value_text}
+use Rattle.lb_base.specs.Quoted.{quoted}
+use Rattle.boki_types.specs.declared.event.Event.{Event}
+use Rattle.boki_types.specs.declared.event.Event.TheVariants as e
+use Rattle.boki_types.specs.declared.kind.Kind.{Kind}
+use Rattle.boki_types.specs.declared.kind.Kind.TheVariants as kind
+use Rattle.boki_types.specs.declared.plan.Setup.{Setup}
+use Rattle.boki_types.specs.declared.program.Function.{Function}
+use Rattle.boki_types.specs.Finding.{find, function_at}
+use Rattle.boki_model.specs.Maps.{has}
+use Rattle.boki_model.specs.Bodies.{few, is_word_text, is_identifier, is_value, is_target}
+use Rattle.boki_model.specs.Plans.{from_to, is_setup, is_one_of, is_attempt, is_user_tag, are_user_tags, is_text, is_word, has_arity, names, distinct, is_function, is_program, is_event}
+use Rattle.script_lang.specs.declared.token.Token.{Token}
+use Rattle.script_lang.specs.declared.token.Token.TheVariants as t
+use Rattle.script_lang.specs.declared.rated.Rated.{Rated}
+use Rattle.script_lang.specs.declared.rated.Rated.TheVariants as r
+use Rattle.script_lang.specs.Names.{call_fault}
+use Rattle.script_lang.specs.Printed.{listed}
+use Rattle.script_lang.specs.Stream.{behind}
+use Rattle.script_lang.specs.Tokens.{word_token, key_of, tokens_in}
+use Rattle.script_lang.specs.Statements.{both, map_rated, fine_if, alone}
+use Rattle.script_lang.proofs.Relexed.{Lexes}
+use Rattle.script_lang.proofs.ReadAgain.{list_tokens}
+use Rattle.plan_lang.specs.declared.events.Entry.{Entry}
+use Rattle.plan_lang.specs.Events.{verb_of, engine_of, attempt_of, tag_of, copy_of, start_of, switch_of, append_of, cond_of, tail_of, settled_of, set_aux_of, get_aux_of, seed_of, submitted, submit_of, callless, plain, plain_of, worded, entry_of}
+use Rattle.plan_lang.specs.Fields.{number_by, number_at, short_at, path_at, sent_of, tags_at}
+use Rattle.plan_lang.specs.Printed.{name_at, one_text, pair_text, triple_text, event_text, tags_text}
+use Rattle.plan_lang.proofs.GoodFields.{both_true, split_true}
+use Rattle.plan_lang.proofs.GoodPlans.{not_true, split_or}
+use Rattle.plan_lang.proofs.ObjectLemmas.{flip}
+use Rattle.plan_lang.proofs.PathsAgain.{small, numbers_again, path_token, path_lexed, path_small, path_again}
+use Rattle.plan_lang.proofs.TokensAgain.{Cuts, whole, number_piece, text_piece, spaced, behind_word, word_piece, tag_token, tags_piece, call_tokens, call_piece}
+use Rattle.plan_lang.proofs.FieldsAgain.{tags_again, call_again, word_flag}
+
+-- The line of an event without a call is read again as this event.
+abbrev pub Again : Setup → List Function → Event → Type 0
+Again setup fs x = option_and_then (entry_of setup fs) (tokens_in (event_text fs x)) ≡ Some (r.Fine (callless x))
+
+again : (setup : Setup) (fs : List Function) (text : List ℕ) (us : List Token) (found : Option (Rated Entry)) → Cuts text us → entry_of setup fs us ≡ found → option_and_then (entry_of setup fs) (tokens_in text) ≡ found
+again setup fs text us found l h = ap (option_and_then (entry_of setup fs)) (whole text us l) ∙ h
+
+-- Fields in range.
+one_fine : {A D : Type 0} (f : A → D) (a : A) (x : Bool) → x ≡ true → map_rated f (fine_if x a) ≡ r.Fine (f a)
+one_fine f a x h = rw h refl
+
+two_fine : {A B D : Type 0} (f : A × B → D) (a : A) (b : B) (x y : Bool) → x ≡ true → y ≡ true → map_rated f (both (fine_if x a) (fine_if y b)) ≡ r.Fine (f (a, b))
+two_fine f a b x y h k = rw (h, k) refl
+
+three_fine : {A B C D : Type 0} (f : (A × B) × C → D) (a : A) (b : B) (c : C) (x y z : Bool) → x ≡ true → y ≡ true → z ≡ true → map_rated f (both (both (fine_if x a) (fine_if y b)) (fine_if z c)) ≡ r.Fine (f ((a, b), c))
+three_fine f a b c x y z h k l = rw (h, k, l) refl
+
+-- Numbers of 64 bits.
+low_word : (n : ℕ) → is_word n ≡ true → n < 2 ^ 64
+low_word n h = grind (arith, nat_tests, h)
+
+low_tag : (tag : Tag) → is_user_tag tag ≡ true → tag.0 < 2 ^ 64
+low_tag tag h = grind (arith, nat_tests, h)
+
+low_attempt : (n : ℕ) → is_attempt n ≡ true → n < 2 ^ 64
+low_attempt n h = grind (arith, nat_tests, h)
+
+low_request : (n : ℕ) → is_request n ≡ true → n < 2 ^ 64
+low_request n h = grind (arith, nat_tests, h)
+
+request_flag : (n : ℕ) → is_request n ≡ true → from_to 1 1048575 n ≡ true
+request_flag n h = grind (arith, nat_tests, h)
+
+pub record Small (setup : Setup) : Type 0 where
+  pub shards : setup.shards ≤ 16
+  pub replicas : setup.replicas ≤ 5
+  pub engines : setup.engines ≤ 16
+
+at_most : (low high n : ℕ) → from_to low high n ≡ true → n ≤ high
+at_most low high n h = grind (arith, nat_tests, h)
+
+low_by : (low high n most : ℕ) → most < 2 ^ 64 → high ≤ most → from_to low high n ≡ true → n < 2 ^ 64
+low_by low high n most l k h = let u = at_most low high n h in omega arith
+
+pub small_setup : (setup : Setup) → is_setup setup ≡ true → Small setup
+small_setup setup h =
+    let a = split_true _ _ h in
+    let b = split_true _ _ a.0 in
+    let c = split_true (from_to 1 16 setup.shards && from_to 1 5 setup.replicas) (from_to 1 16 setup.engines) b.0 in
+    let d = split_true (from_to 1 16 setup.shards) (from_to 1 5 setup.replicas) c.0 in record {
+      shards = at_most 1 16 setup.shards d.0;
+      replicas = at_most 1 5 setup.replicas d.1;
+      engines = at_most 1 16 setup.engines c.1;
+    }
+
+low_engine : (setup : Setup) (n : ℕ) → Small setup → is_one_of setup.engines n ≡ true → n < 2 ^ 64
+low_engine setup n s h = low_by 1 setup.engines n 16 (omega arith) s.engines h
+
+-- One number, two, and three behind a word.
+one_lexed : (w : List ℕ) (n : ℕ) → word_token w ≡ t.Name w → is_word_text w ≡ true → n < 2 ^ 64 → Cuts (w ++ (32 ∷ decimal n)) (t.Name w ∷ t.Num (Some n) ∷ [])
+one_lexed w n e i l = behind_word w (decimal n) _ e i (number_piece n l)
+
+two_lexed : (w : List ℕ) (n m : ℕ) → word_token w ≡ t.Name w → is_word_text w ≡ true → n < 2 ^ 64 → m < 2 ^ 64 → Cuts (w ++ (32 ∷ (decimal n ++ (32 ∷ decimal m)))) (t.Name w ∷ t.Num (Some n) ∷ t.Num (Some m) ∷ [])
+two_lexed w n m e i l k =
+    behind_word w _ _ e i (spaced (decimal n) (decimal m) (t.Num (Some n) ∷ []) (t.Num (Some m) ∷ []) (number_piece n l) (number_piece m k))
+
+three_lexed : (w : List ℕ) (n m o : ℕ) → word_token w ≡ t.Name w → is_word_text w ≡ true → n < 2 ^ 64 → m < 2 ^ 64 → o < 2 ^ 64 → Cuts (w ++ (32 ∷ (decimal n ++ (32 ∷ (decimal m ++ (32 ∷ decimal o)))))) (t.Name w ∷ t.Num (Some n) ∷ t.Num (Some m) ∷ t.Num (Some o) ∷ [])
+three_lexed w n m o e i l k j =
+    behind_word w _ _ e i (spaced (decimal n) (decimal m ++ (32 ∷ decimal o)) (t.Num (Some n) ∷ []) (t.Num (Some m) ∷ t.Num (Some o) ∷ []) (number_piece n l) (spaced (decimal m) (decimal o) (t.Num (Some m) ∷ []) (t.Num (Some o) ∷ []) (number_piece m k) (number_piece o j)))
+
+-- Reading them.
+engine_back : (setup : Setup) (make : ℕ → Event) (n : ℕ) → is_one_of setup.engines n ≡ true → engine_of make setup (t.Num (Some n) ∷ []) ≡ Some (r.Fine (make n))
+engine_back setup make n h = ap (λ x. Some x) (one_fine make n (is_one_of setup.engines n) h)
+
+attempt_back : (make : ℕ → Event) (n : ℕ) → is_attempt n ≡ true → attempt_of make (t.Num (Some n) ∷ []) ≡ Some (r.Fine (make n))
+attempt_back make n h = ap (λ x. Some x) (one_fine make n (is_attempt n) h)
+
+tag_event_back : (setup : Setup) (make : ℕ → Tag → ℕ → Event) (n : ℕ) (tag : Tag) (o : ℕ) → is_one_of setup.engines n ≡ true → is_user_tag tag ≡ true → is_word o ≡ true → tag_of make setup (t.Num (Some n) ∷ t.Num (Some tag.0) ∷ t.Num (Some o) ∷ []) ≡ Some (r.Fine (make n tag o))
+tag_event_back setup make n tag o h k l =
+    ap (λ x. Some x) (three_fine (λ (p : (ℕ × Tag) × ℕ). make p.0.0 p.0.1 p.1) n tag o (is_one_of setup.engines n) (is_user_tag tag) (from_to 0 (2 ^ 64 - 1) o) h k (word_flag o l))
+
+-- Events of one number.
+catch_again : (setup : Setup) (fs : List Function) (n : ℕ) → Small setup → is_one_of setup.engines n ≡ true → Again setup fs (e.Catch n)
+unfolding word_token key_of verb_of
+catch_again setup fs n s h = again setup fs _ _ _ (one_lexed (codes "catch") n refl refl (low_engine setup n s h)) (ap plain (engine_back setup (λ k. e.Catch k) n h))
+
+restart_again : (setup : Setup) (fs : List Function) (n : ℕ) → Small setup → is_one_of setup.engines n ≡ true → Again setup fs (e.Restart n)
+unfolding word_token key_of verb_of
+restart_again setup fs n s h = again setup fs _ _ _ (one_lexed (codes "restart") n refl refl (low_engine setup n s h)) (ap plain (engine_back setup (λ k. e.Restart k) n h))
+
+end_switch_again : (setup : Setup) (fs : List Function) (n : ℕ) → Small setup → is_one_of setup.engines n ≡ true → Again setup fs (e.EndSwitch n)
+unfolding word_token key_of verb_of
+end_switch_again setup fs n s h = again setup fs _ _ _ (one_lexed (codes "endswitch") n refl refl (low_engine setup n s h)) (ap plain (engine_back setup (λ k. e.EndSwitch k) n h))
+
+trim_again : (setup : Setup) (fs : List Function) (n : ℕ) → Small setup → is_one_of setup.engines n ≡ true → Again setup fs (e.Trim n)
+unfolding word_token key_of verb_of
+trim_again setup fs n s h = again setup fs _ _ _ (one_lexed (codes "trim") n refl refl (low_engine setup n s h)) (ap plain (engine_back setup (λ k. e.Trim k) n h))
+
+sweep_again : (setup : Setup) (fs : List Function) (n : ℕ) → Small setup → is_one_of setup.engines n ≡ true → Again setup fs (e.Sweep n)
+unfolding word_token key_of verb_of
+sweep_again setup fs n s h = again setup fs _ _ _ (one_lexed (codes "sweep") n refl refl (low_engine setup n s h)) (ap plain (engine_back setup (λ k. e.Sweep k) n h))
+
+step_again : (setup : Setup) (fs : List Function) (n : ℕ) → is_attempt n ≡ true → Again setup fs (e.Step n)
+unfolding word_token key_of verb_of
+step_again setup fs n h = again setup fs _ _ _ (one_lexed (codes "step") n refl refl (low_attempt n h)) (ap plain (attempt_back (λ k. e.Step k) n h))
+
+kill_again : (setup : Setup) (fs : List Function) (n : ℕ) → is_attempt n ≡ true → Again setup fs (e.Kill n)
+unfolding word_token key_of verb_of
+kill_again setup fs n h = again setup fs _ _ _ (one_lexed (codes "kill") n refl refl (low_attempt n h)) (ap plain (attempt_back (λ k. e.Kill k) n h))
+
+lose_again : (setup : Setup) (fs : List Function) (n : ℕ) → is_attempt n ≡ true → Again setup fs (e.Lose n)
+unfolding word_token key_of verb_of
+lose_again setup fs n h = again setup fs _ _ _ (one_lexed (codes "lose") n refl refl (low_attempt n h)) (ap plain (attempt_back (λ k. e.Lose k) n h))
+
+miss_again : (setup : Setup) (fs : List Function) (n : ℕ) → is_attempt n ≡ true → Again setup fs (e.Miss n)
+unfolding word_token key_of verb_of
+miss_again setup fs n h = again setup fs _ _ _ (one_lexed (codes "miss") n refl refl (low_attempt n h)) (ap plain (attempt_back (λ k. e.Miss k) n h))
+
+seed_again : (setup : Setup) (fs : List Function) (n : ℕ) → is_word n ≡ true → Again setup fs (e.Seed n)
+unfolding word_token key_of verb_of
+seed_again setup fs n h = again setup fs _ _ _ (one_lexed (codes "seed") n refl refl (low_word n h)) (ap (λ x. plain (Some x)) (one_fine (λ k. e.Seed k) n (from_to 0 (2 ^ 64 - 1) n) (word_flag n h)))
+
+cut_again : (setup : Setup) (fs : List Function) → Again setup fs e.Cut
+unfolding word_token key_of verb_of
+cut_again setup fs = again setup fs _ _ _ (word_piece (codes "cut") refl refl) refl
+
+sync_again : (setup : Setup) (fs : List Function) → Again setup fs e.Sync
+unfolding word_token key_of verb_of
+sync_again setup fs = again setup fs _ _ _ (word_piece (codes "sync") refl refl) refl
+
+-- Events of two and three numbers.
+copy_again : (setup : Setup) (fs : List Function) (shard replica n : ℕ) → Small setup → from_to 1 setup.shards shard ≡ true → from_to 2 setup.replicas replica ≡ true → is_word n ≡ true → Again setup fs (e.Copy shard replica n)
+unfolding word_token key_of verb_of
+copy_again setup fs shard replica n s h k l =
+    again setup fs _ _ _ (three_lexed (codes "copy") shard replica n refl refl (low_by 1 setup.shards shard 16 (omega arith) s.shards h) (low_by 2 setup.replicas replica 5 (omega arith) s.replicas k) (low_word n l))
+    (ap (λ x. plain (Some x)) (three_fine (λ (p : (ℕ × ℕ) × ℕ). e.Copy p.0.0 p.0.1 p.1) shard replica n (from_to 1 setup.shards shard) (from_to 2 setup.replicas replica) (from_to 0 (2 ^ 64 - 1) n) h k (word_flag n l)))
+
+next_again : (setup : Setup) (fs : List Function) (n : ℕ) (tag : Tag) (o : ℕ) → Small setup → is_one_of setup.engines n ≡ true → is_user_tag tag ≡ true → is_word o ≡ true → Again setup fs (e.Next n tag (record { 0 = o }))
+unfolding word_token key_of verb_of
+next_again setup fs n tag o s h k l =
+    again setup fs _ _ _ (three_lexed (codes "next") n tag.0 o refl refl (low_engine setup n s h) (low_tag tag k) (low_word o l)) (ap plain (tag_event_back setup (λ a b c. e.Next a b (record { 0 = c })) n tag o h k l))
+
+prev_again : (setup : Setup) (fs : List Function) (n : ℕ) (tag : Tag) (o : ℕ) → Small setup → is_one_of setup.engines n ≡ true → is_user_tag tag ≡ true → is_word o ≡ true → Again setup fs (e.Prev n tag (record { 0 = o }))
+unfolding word_token key_of verb_of
+prev_again setup fs n tag o s h k l =
+    again setup fs _ _ _ (three_lexed (codes "prev") n tag.0 o refl refl (low_engine setup n s h) (low_tag tag k) (low_word o l)) (ap plain (tag_event_back setup (λ a b c. e.Prev a b (record { 0 = c })) n tag o h k l))
+
+trim_tag_again : (setup : Setup) (fs : List Function) (n : ℕ) (tag : Tag) (o : ℕ) → Small setup → is_one_of setup.engines n ≡ true → is_user_tag tag ≡ true → is_word o ≡ true → Again setup fs (e.TrimTag n tag (record { 0 = o }))
+unfolding word_token key_of verb_of
+trim_tag_again setup fs n tag o s h k l =
+    again setup fs _ _ _ (three_lexed (codes "trimtag") n tag.0 o refl refl (low_engine setup n s h) (low_tag tag k) (low_word o l)) (ap plain (tag_event_back setup (λ a b c. e.TrimTag a b (record { 0 = c })) n tag o h k l))
+
+tail_again : (setup : Setup) (fs : List Function) (n : ℕ) (tag : Tag) → Small setup → is_one_of setup.engines n ≡ true → is_user_tag tag ≡ true → Again setup fs (e.Tail n tag)
+unfolding word_token key_of verb_of
+tail_again setup fs n tag s h k =
+    again setup fs _ _ _ (two_lexed (codes "tail") n tag.0 refl refl (low_engine setup n s h) (low_tag tag k))
+    (ap (λ x. plain (Some x)) (two_fine (λ (p : ℕ × Tag). e.Tail p.0 p.1) n tag (is_one_of setup.engines n) (is_user_tag tag) h k))
+
+get_aux_again : (setup : Setup) (fs : List Function) (n o : ℕ) → Small setup → is_one_of setup.engines n ≡ true → is_word o ≡ true → Again setup fs (e.GetAux n (record { 0 = o }))
+unfolding word_token key_of verb_of
+get_aux_again setup fs n o s h l =
+    again setup fs _ _ _ (two_lexed (codes "getaux") n o refl refl (low_engine setup n s h) (low_word o l))
+    (ap (λ x. plain (Some x)) (two_fine (λ (p : ℕ × ℕ). e.GetAux p.0 (record { 0 = p.1 })) n o (is_one_of setup.engines n) (from_to 0 (2 ^ 64 - 1) o) h (word_flag o l)))
+
+-- A mode.
+switch_r : (setup : Setup) (fs : List Function) (n : ℕ) → Small setup → is_one_of setup.engines n ≡ true → Again setup fs (e.Switch n mode.R)
+unfolding word_token key_of verb_of
+switch_r setup fs n s h =
+    again setup fs _ (t.Name (codes "switch") ∷ t.Num (Some n) ∷ t.Name (codes "R") ∷ []) _ (behind_word (codes "switch") (decimal n ++ (32 ∷ codes "R")) _ refl refl (spaced (decimal n) (codes "R") (t.Num (Some n) ∷ []) (t.Name (codes "R") ∷ []) (number_piece n (low_engine setup n s h)) (word_piece (codes "R") refl refl)))
+    (ap (λ x. plain (Some x)) (one_fine (λ (k : ℕ). e.Switch k mode.R) n (is_one_of setup.engines n) h))
+
+switch_w : (setup : Setup) (fs : List Function) (n : ℕ) → Small setup → is_one_of setup.engines n ≡ true → Again setup fs (e.Switch n mode.W)
+unfolding word_token key_of verb_of
+switch_w setup fs n s h =
+    again setup fs _ (t.Name (codes "switch") ∷ t.Num (Some n) ∷ t.Name (codes "W") ∷ []) _ (behind_word (codes "switch") (decimal n ++ (32 ∷ codes "W")) _ refl refl (spaced (decimal n) (codes "W") (t.Num (Some n) ∷ []) (t.Name (codes "W") ∷ []) (number_piece n (low_engine setup n s h)) (word_piece (codes "W") refl refl)))
+    (ap (λ x. plain (Some x)) (one_fine (λ (k : ℕ). e.Switch k mode.W) n (is_one_of setup.engines n) h))
+
+switch_again : (setup : Setup) (fs : List Function) (n : ℕ) (target : Mode) → Small setup → is_one_of setup.engines n ≡ true → is_target target ≡ true → Again setup fs (e.Switch n target)
+switch_again setup fs n mode.R s h k = switch_r setup fs n s h
+switch_again setup fs n mode.W s h k = switch_w setup fs n s h
+switch_again setup fs n mode.T s h k = absurd (cc)
+
+-- A path.
+start_by : (setup : Setup) (attempt engine : ℕ) (path : List ℕ) → is_attempt attempt ≡ true → is_path path ≡ true → is_one_of setup.engines engine ≡ true → start_of setup (t.Num (Some attempt) ∷ path_token path ∷ t.Num (Some engine) ∷ []) ≡ Some (r.Fine (e.Start attempt path engine))
+start_by setup attempt engine path h k l =
+    ap (λ (o : Option (Rated (List ℕ) × List Token)). option_and_then (λ (p : Rated (List ℕ) × List Token). option_and_then (λ (x : Rated ℕ × List Token). alone x.1 (map_rated (λ (q : (ℕ × List ℕ) × ℕ). e.Start q.0.0 q.0.1 q.1) (both (both (number_by 1 4096 (Some attempt)) p.0) x.0))) (number_at 1 setup.engines p.1)) o) (path_again path (t.Num (Some engine) ∷ []) k)
+    ∙ ap (λ x. Some x) (three_fine (λ (q : (ℕ × List ℕ) × ℕ). e.Start q.0.0 q.0.1 q.1) attempt path engine (is_attempt attempt) true (is_one_of setup.engines engine) h refl l)
+
+start_again : (setup : Setup) (fs : List Function) (attempt engine : ℕ) (path : List ℕ) → Small setup → is_attempt attempt ≡ true → is_path path ≡ true → is_one_of setup.engines engine ≡ true → Again setup fs (e.Start attempt path engine)
+unfolding word_token key_of verb_of
+start_again setup fs attempt engine path s h k l =
+    let p = path_small path k in
+    again setup fs _ (t.Name (codes "start") ∷ t.Num (Some attempt) ∷ path_token path ∷ t.Num (Some engine) ∷ []) _ (behind_word (codes "start") (decimal attempt ++ (32 ∷ (path_text path ++ (32 ∷ decimal engine)))) _ refl refl
+    (spaced (decimal attempt) (path_text path ++ (32 ∷ decimal engine)) (t.Num (Some attempt) ∷ []) (path_token path ∷ t.Num (Some engine) ∷ []) (number_piece attempt (low_attempt attempt h))
+    (spaced (path_text path) (decimal engine) (path_token path ∷ []) (t.Num (Some engine) ∷ []) (record { cut = path_lexed path p.0 p.1 }) (number_piece engine (low_engine setup engine s l)))))
+    (ap plain (start_by setup attempt engine path h k l))
+
+-- Texts, with tags or without.
+set_aux_again : (setup : Setup) (fs : List Function) (n o : ℕ) (text : List ℕ) → Small setup → is_one_of setup.engines n ≡ true → is_word o ≡ true → is_text text ≡ true → Again setup fs (e.SetAux n (record { 0 = o }) text)
+unfolding word_token key_of verb_of
+set_aux_again setup fs n o text s h l x =
+    again setup fs _ (t.Name (codes "setaux") ∷ t.Num (Some n) ∷ t.Num (Some o) ∷ t.Text text ∷ []) _ (behind_word (codes "setaux") (decimal n ++ (32 ∷ (decimal o ++ (32 ∷ quoted text)))) _ refl refl
+    (spaced (decimal n) (decimal o ++ (32 ∷ quoted text)) (t.Num (Some n) ∷ []) (t.Num (Some o) ∷ t.Text text ∷ []) (number_piece n (low_engine setup n s h))
+    (spaced (decimal o) (quoted text) (t.Num (Some o) ∷ []) (t.Text text ∷ []) (number_piece o (low_word o l)) (text_piece text x))))
+    (ap (λ y. plain (Some y)) (three_fine (λ (p : (ℕ × ℕ) × List ℕ). e.SetAux p.0.0 (record { 0 = p.0.1 }) p.1) n o text (is_one_of setup.engines n) (from_to 0 (2 ^ 64 - 1) o) (is_text text) h (word_flag o l) x))
+
+append_by : (setup : Setup) (n : ℕ) (tags : List Tag) (text : List ℕ) → is_one_of setup.engines n ≡ true → are_user_tags tags ≡ true → is_text text ≡ true → append_of setup (t.Num (Some n) ∷ (list_tokens tag_token tags ++ t.Text text ∷ [])) ≡ Some (r.Fine (e.Append n tags text))
+append_by setup n tags text h k x =
+    ap (λ (o : Option (Rated (List Tag) × List Token)). option_and_then (λ (p : Rated (List Tag) × List Token). option_and_then (λ (y : Rated (List ℕ) × List Token). alone y.1 (map_rated (λ (q : (ℕ × List Tag) × List ℕ). e.Append q.0.0 q.0.1 q.1) (both (both (number_by 1 setup.engines (Some n)) p.0) y.0))) (short_at p.1)) o) (tags_again tags (t.Text text ∷ []) k refl)
+    ∙ ap (λ y. Some y) (three_fine (λ (q : (ℕ × List Tag) × List ℕ). e.Append q.0.0 q.0.1 q.1) n tags text (is_one_of setup.engines n) true (is_text text) h refl x)
+
+append_again : (setup : Setup) (fs : List Function) (n : ℕ) (tags : List Tag) (text : List ℕ) → Small setup → is_one_of setup.engines n ≡ true → are_user_tags tags ≡ true → is_text text ≡ true → Again setup fs (e.Append n tags text)
+unfolding word_token key_of verb_of
+append_again setup fs n tags text s h k x =
+    let g = (split_true (from_to 1 8 (length tags)) (list_all is_user_tag tags) k).1 in
+    again setup fs _ (t.Name (codes "append") ∷ t.Num (Some n) ∷ (list_tokens tag_token tags ++ t.Text text ∷ [])) _ (behind_word (codes "append") (decimal n ++ (32 ∷ (tags_text tags ++ (32 ∷ quoted text)))) _ refl refl
+    (spaced (decimal n) (tags_text tags ++ (32 ∷ quoted text)) (t.Num (Some n) ∷ []) (list_tokens tag_token tags ++ t.Text text ∷ []) (number_piece n (low_engine setup n s h))
+    (spaced (tags_text tags) (quoted text) (list_tokens tag_token tags) (t.Text text ∷ []) (tags_piece tags g) (text_piece text x))))
+    (ap plain (append_by setup n tags text h k x))
+
+four_fine : {A B C D E : Type 0} (f : (A × B) × (C × D) → E) (a : A) (b : B) (c : C) (d : D) (x y z w : Bool) → x ≡ true → y ≡ true → z ≡ true → w ≡ true → map_rated f (both (both (fine_if x a) (fine_if y b)) (both (fine_if z c) (fine_if w d))) ≡ r.Fine (f ((a, b), (c, d)))
+four_fine f a b c d x y z w h k l j = rw (h, k, l, j) refl
+
+cond_by : (setup : Setup) (n o : ℕ) (tags : List Tag) (text : List ℕ) → is_one_of setup.engines n ≡ true → is_word o ≡ true → are_user_tags tags ≡ true → is_text text ≡ true → cond_of setup (t.Num (Some n) ∷ t.Num (Some o) ∷ (list_tokens tag_token tags ++ t.Text text ∷ [])) ≡ Some (r.Fine (e.Cond n o tags text))
+cond_by setup n o tags text h l k x =
+    ap (λ (u : Option (Rated (List Tag) × List Token)). option_and_then (λ (p : Rated (List Tag) × List Token). option_and_then (λ (y : Rated (List ℕ) × List Token). alone y.1 (map_rated (λ (q : (ℕ × ℕ) × (List Tag × List ℕ)). e.Cond q.0.0 q.0.1 q.1.0 q.1.1) (both (both (number_by 1 setup.engines (Some n)) (number_by 0 (2 ^ 64 - 1) (Some o))) (both p.0 y.0)))) (short_at p.1)) u) (tags_again tags (t.Text text ∷ []) k refl)
+    ∙ ap (λ y. Some y) (four_fine (λ (q : (ℕ × ℕ) × (List Tag × List ℕ)). e.Cond q.0.0 q.0.1 q.1.0 q.1.1) n o tags text (is_one_of setup.engines n) (from_to 0 (2 ^ 64 - 1) o) true (is_text text) h (word_flag o l) refl x)
+
+cond_again : (setup : Setup) (fs : List Function) (n o : ℕ) (tags : List Tag) (text : List ℕ) → Small setup → is_one_of setup.engines n ≡ true → is_word o ≡ true → are_user_tags tags ≡ true → is_text text ≡ true → Again setup fs (e.Cond n o tags text)
+unfolding word_token key_of verb_of
+cond_again setup fs n o tags text s h l k x =
+    let g = (split_true (from_to 1 8 (length tags)) (list_all is_user_tag tags) k).1 in
+    again setup fs _ (t.Name (codes "cond") ∷ t.Num (Some n) ∷ t.Num (Some o) ∷ (list_tokens tag_token tags ++ t.Text text ∷ [])) _ (behind_word (codes "cond") (decimal n ++ (32 ∷ (decimal o ++ (32 ∷ (tags_text tags ++ (32 ∷ quoted text)))))) _ refl refl
+    (spaced (decimal n) (decimal o ++ (32 ∷ (tags_text tags ++ (32 ∷ quoted text)))) (t.Num (Some n) ∷ []) (t.Num (Some o) ∷ (list_tokens tag_token tags ++ t.Text text ∷ [])) (number_piece n (low_engine setup n s h))
+    (spaced (decimal o) (tags_text tags ++ (32 ∷ quoted text)) (t.Num (Some o) ∷ []) (list_tokens tag_token tags ++ t.Text text ∷ []) (number_piece o (low_word o l))
+    (spaced (tags_text tags) (quoted text) (list_tokens tag_token tags) (t.Text text ∷ []) (tags_piece tags g) (text_piece text x)))))
+    (ap plain (cond_by setup n o tags text h l k x))
+
+-- A place in a shard.
+nested_fine : {A B C D : Type 0} (f : A × (B × C) → D) (a : A) (b : B) (c : C) (x y z : Bool) → x ≡ true → y ≡ true → z ≡ true → map_rated f (both (fine_if x a) (both (fine_if y b) (fine_if z c))) ≡ r.Fine (f (a, (b, c)))
+nested_fine f a b c x y z h k l = rw (h, k, l) refl
+
+local_flag : (n : ℕ) → nat_le 1 n ≡ true → is_word n ≡ true → from_to 1 (2 ^ 64 - 1) n ≡ true
+local_flag n h k = grind (arith, nat_tests, h, k)
+
+word_of : (n : ℕ) → n < 2 ^ 64 → nat_lt n (2 ^ 64) ≡ true
+word_of n h = grind (arith, nat_tests, h)
+
+settled_by : (setup : Setup) (n shard local : ℕ) → is_one_of setup.engines n ≡ true → is_one_of setup.shards shard ≡ true → from_to 1 (2 ^ 64 - 1) local ≡ true → small (shard ∷ local ∷ []) ≡ true → settled_of setup (t.Num (Some n) ∷ t.Dotted (path_text (shard ∷ local ∷ [])) ∷ []) ≡ Some (r.Fine (e.Settled n shard local))
+settled_by setup n shard local h k l low =
+    ap (λ (o : Option (List (Option ℕ))). option_and_then (λ (p : Rated (ℕ × ℕ) × List Token). alone p.1 (map_rated (λ (q : ℕ × (ℕ × ℕ)). e.Settled q.0 q.1.0 q.1.1) (both (number_by 1 setup.engines (Some n)) p.0))) (behind [] (option_and_then (sent_of setup.shards) o))) (numbers_again shard (local ∷ []) low)
+    ∙ ap (λ y. Some y) (nested_fine (λ (q : ℕ × (ℕ × ℕ)). e.Settled q.0 q.1.0 q.1.1) n shard local (is_one_of setup.engines n) (is_one_of setup.shards shard) (from_to 1 (2 ^ 64 - 1) local) h k l)
+
+settled_again : (setup : Setup) (fs : List Function) (n shard local : ℕ) → Small setup → is_one_of setup.engines n ≡ true → is_one_of setup.shards shard ≡ true → nat_le 1 local ≡ true → is_word local ≡ true → Again setup fs (e.Settled n shard local)
+unfolding word_token key_of verb_of
+settled_again setup fs n shard local s h k l w =
+    let shard_low = low_by 1 setup.shards shard 16 (omega arith) s.shards k in
+    let low : small (shard ∷ local ∷ []) ≡ true = both_true (nat_lt shard (2 ^ 64)) (small (local ∷ [])) (word_of shard shard_low) (both_true (nat_lt local (2 ^ 64)) true w refl) in
+    let same : path_text (shard ∷ local ∷ []) ≡ decimal shard ++ (46 ∷ decimal local) = ap (λ (x : List ℕ). decimal shard ++ (46 ∷ x)) (append-nil (decimal local)) in
+    let P : List ℕ → Type 0 = λ x. Lexes x (t.Dotted (path_text (shard ∷ local ∷ [])) ∷ []) in
+    let place : Cuts (decimal shard ++ (46 ∷ decimal local)) (t.Dotted (path_text (shard ∷ local ∷ [])) ∷ []) = record { cut = subst P same (path_lexed (shard ∷ local ∷ []) (omega arith) low) } in
+    again setup fs _ (t.Name (codes "settled") ∷ t.Num (Some n) ∷ t.Dotted (path_text (shard ∷ local ∷ [])) ∷ []) _ (behind_word (codes "settled") (decimal n ++ (32 ∷ (decimal shard ++ (46 ∷ decimal local)))) _ refl refl
+    (spaced (decimal n) (decimal shard ++ (46 ∷ decimal local)) (t.Num (Some n) ∷ []) (t.Dotted (path_text (shard ∷ local ∷ [])) ∷ []) (number_piece n (low_engine setup n s h)) place))
+    (ap plain (settled_by setup n shard local h k (local_flag local l w) low))
+
+-- A call: the function is found by its name.
+same_name : (x : List ℕ) → bytes_eq x x ≡ true
+same_name x = (bytes_eq-Decides x x).1 refl
+
+record Known (fs : List Function) (f n : ℕ) : Type 0 where
+  name : is_identifier (name_at fs f) ≡ true
+  found : find (name_at fs f) fs ≡ Some f
+  fault : call_fault fs (name_at fs f) n ≡ None
+
+other_name : (fs : List Function) (f n : ℕ) (y : List ℕ) → has_arity n (function_at f fs) ≡ true → has y (names fs) ≡ false → bytes_eq (name_at fs f) y ≡ false
+other_name [] f n y a h = absurd (cc)
+other_name (g ∷ fs) zero n y a h = flip g.name y ∙ (split_or (bytes_eq y g.name) (has y (names fs)) h).0
+other_name (g ∷ fs) (suc f) n y a h = other_name fs f n y a ((split_or (bytes_eq y g.name) (has y (names fs)) h).1)
+
+known : (fs : List Function) (f n : ℕ) → distinct (names fs) ≡ true → list_all is_identifier (names fs) ≡ true → has_arity n (function_at f fs) ≡ true → Known fs f n
+known [] f n d i a = absurd (cc)
+known (g ∷ fs) zero n d i a = record {
+  name = (split_true (is_identifier g.name) (list_all is_identifier (names fs)) i).0;
+  found = ap (λ b. cond b (Some 0) (option_map suc (find g.name fs))) (same_name g.name);
+  fault = ap (λ b. cond b (cond (n == length g.params) None (Some kind.Arity)) (call_fault fs g.name n)) (same_name g.name) ∙ ap (λ b. cond b None (Some kind.Arity)) a;
+}
+known (g ∷ fs) (suc f) n d i a =
+    let q = known fs f n ((split_true (not (has g.name (names fs))) (distinct (names fs)) d).1) ((split_true (is_identifier g.name) (list_all is_identifier (names fs)) i).1) a in
+    let no = other_name fs f n g.name a (not_true (has g.name (names fs)) ((split_true (not (has g.name (names fs))) (distinct (names fs)) d).0)) in record {
+      name = q.name;
+      found = ap (λ b. cond b (Some 0) (option_map suc (find (name_at fs f) fs))) no ∙ ap (option_map suc) q.found;
+      fault = ap (λ b. cond b (cond (n == length g.params) None (Some kind.Arity)) (call_fault fs (name_at fs f) n)) no ∙ q.fault;
+    }
+
+submit_by : (setup : Setup) (fs : List Function) (n q f : ℕ) (args : List Value) → is_one_of setup.engines n ≡ true → is_request q ≡ true → list_all is_value args ≡ true → Known fs f (length args) → submit_of setup fs (t.Num (Some n) ∷ t.Num (Some q) ∷ call_tokens (name_at fs f) args) ≡ Some (r.Fine (callless (e.Submit n q f args)))
+submit_by setup fs n q f args h k a w =
+    let name = name_at fs f in
+    ap (λ (o : Option (Rated (List ℕ × List Value) × List Token)). option_and_then (λ (c : Rated (List ℕ × List Value) × List Token). alone c.1 (map_rated (submitted fs) (both (both (number_by 1 setup.engines (Some n)) (number_by 1 1048575 (Some q))) c.0))) o) (call_again name args w.name a)
+    ∙ ap (λ y. Some y) (three_fine (submitted fs) n q (name, args) (is_one_of setup.engines n) (from_to 1 1048575 q) true h (request_flag q k) refl)
+    ∙ ap (λ (o : Option ℕ). Some (r.Fine (record { event = e.Submit n q (unwrap_or o 0) args; fault = call_fault fs name (length args) }))) w.found
+    ∙ ap (λ (o : Option Kind). Some (r.Fine (record { event = e.Submit n q f args; fault = o }))) w.fault
+
+submit_worded : (setup : Setup) (fs : List Function) (ts : List Token) → entry_of setup fs (t.Name (codes "submit") ∷ ts) ≡ submit_of setup fs ts
+submit_worded setup fs ts = refl
+
+submit_again : (setup : Setup) (fs : List Function) (n q f : ℕ) (args : List Value) → Small setup → is_one_of setup.engines n ≡ true → is_request q ≡ true → list_all is_value args ≡ true → Known fs f (length args) → Again setup fs (e.Submit n q f args)
+unfolding word_token key_of
+submit_again setup fs n q f args s h k a w =
+    let name = name_at fs f in
+    let call = name ++ (codes "(" ++ (listed value_text args ++ codes ")")) in
+    again setup fs _ (t.Name (codes "submit") ∷ t.Num (Some n) ∷ t.Num (Some q) ∷ call_tokens (name_at fs f) args) _ (behind_word (codes "submit") (decimal n ++ (32 ∷ (decimal q ++ (32 ∷ call)))) _ refl refl
+    (spaced (decimal n) (decimal q ++ (32 ∷ call)) (t.Num (Some n) ∷ []) (t.Num (Some q) ∷ call_tokens (name_at fs f) args) (number_piece n (low_engine setup n s h))
+    (spaced (decimal q) call (t.Num (Some q) ∷ []) (call_tokens (name_at fs f) args) (number_piece q (low_request q k)) (call_piece (name_at fs f) args w.name a))))
+    (submit_by setup fs n q f args h k a w)
+
+-- All events.
+three_true : (a b c : Bool) → ((a && b) && c) ≡ true → (a ≡ true) × (b ≡ true) × (c ≡ true)
+three_true a b c h = let q = split_true (a && b) c h in let p = split_true a b q.0 in (p.0, p.1, q.1)
+
+four_true : (a b c d : Bool) → (((a && b) && c) && d) ≡ true → (a ≡ true) × (b ≡ true) × (c ≡ true) × (d ≡ true)
+four_true a b c d h = let q = split_true ((a && b) && c) d h in let p = three_true a b c q.0 in (p.0, p.1, p.2, q.1)
+
+pub event_again : (setup : Setup) (fs : List Function) (x : Event) → Small setup → distinct (names fs) ≡ true → list_all is_identifier (names fs) ≡ true → is_event setup fs x ≡ true → Again setup fs x
+event_again setup fs (e.Submit n q f args) s d i h =
+    let p = four_true _ _ _ _ h in submit_again setup fs n q f args s p.0 p.1 p.2 (known fs f (length args) d i p.3)
+event_again setup fs (e.Copy shard replica n) s d i h = let p = three_true _ _ _ h in copy_again setup fs shard replica n s p.0 p.1 p.2
+event_again setup fs e.Cut s d i h = cut_again setup fs
+event_again setup fs (e.Catch n) s d i h = catch_again setup fs n s h
+event_again setup fs e.Sync s d i h = sync_again setup fs
+event_again setup fs (e.Restart n) s d i h = restart_again setup fs n s h
+event_again setup fs (e.Start attempt path n) s d i h = let p = three_true _ _ _ h in start_again setup fs attempt n path s p.0 p.1 p.2
+event_again setup fs (e.Step n) s d i h = step_again setup fs n h
+event_again setup fs (e.Kill n) s d i h = kill_again setup fs n h
+event_again setup fs (e.Lose n) s d i h = lose_again setup fs n h
+event_again setup fs (e.Miss n) s d i h = miss_again setup fs n h
+event_again setup fs (e.Switch n target) s d i h = let p = split_true _ _ h in switch_again setup fs n target s p.0 p.1
+event_again setup fs (e.EndSwitch n) s d i h = end_switch_again setup fs n s h
+event_again setup fs (e.Trim n) s d i h = trim_again setup fs n s h
+event_again setup fs (e.Sweep n) s d i h = sweep_again setup fs n s h
+event_again setup fs (e.Append n tags text) s d i h = let p = three_true _ _ _ h in append_again setup fs n tags text s p.0 p.1 p.2
+event_again setup fs (e.Cond n o tags text) s d i h = let p = four_true _ _ _ _ h in cond_again setup fs n o tags text s p.0 p.1 p.2 p.3
+event_again setup fs (e.Next n tag o) s d i h = let p = three_true _ _ _ h in next_again setup fs n tag o.0 s p.0 p.1 p.2
+event_again setup fs (e.Prev n tag o) s d i h = let p = three_true _ _ _ h in prev_again setup fs n tag o.0 s p.0 p.1 p.2
+event_again setup fs (e.Tail n tag) s d i h = let p = split_true _ _ h in tail_again setup fs n tag s p.0 p.1
+event_again setup fs (e.TrimTag n tag o) s d i h = let p = three_true _ _ _ h in trim_tag_again setup fs n tag o.0 s p.0 p.1 p.2
+event_again setup fs (e.Settled n shard local) s d i h = let p = four_true _ _ _ _ h in settled_again setup fs n shard local s p.0 p.1 p.2 p.3
+event_again setup fs (e.SetAux n o text) s d i h = let p = three_true _ _ _ h in set_aux_again setup fs n o.0 text s p.0 p.1 p.2
+event_again setup fs (e.GetAux n o) s d i h = let p = split_true _ _ h in get_aux_again setup fs n o.0 s p.0 p.1
+event_again setup fs (e.Seed n) s d i h = seed_again setup fs n h
+
+-- The names of a program.
+named_by : (fs : List Function) (f : Function) → is_function fs f ≡ true → is_identifier f.name ≡ true
+named_by fs f h =
+    let a = split_true _ _ h in
+    let b = split_true _ _ a.0 in
+    let c = split_true _ _ b.0 in
+    let d = split_true _ _ c.0 in
+    (split_true (is_identifier f.name) (few f.params) d.0).0
+
+identifiers : (fs gs : List Function) → list_all (is_function fs) gs ≡ true → list_all is_identifier (names gs) ≡ true
+identifiers fs [] h = refl
+identifiers fs (g ∷ gs) h =
+    let q = split_true (is_function fs g) (list_all (is_function fs) gs) h in
+    both_true (is_identifier g.name) (list_all is_identifier (names gs)) (named_by fs g q.0) (identifiers fs gs q.1)
+
+pub printed_event : (setup : Setup) (fs : List Function) (x : Event) → is_setup setup ≡ true → is_program (record { functions = fs }) ≡ true → is_event setup fs x ≡ true → Again setup fs x
+printed_event setup fs x s p h =
+    let a = split_true (nat_le (length fs) 256 && distinct (names fs)) (list_all (is_function fs) fs) p in
+    let b = split_true (nat_le (length fs) 256) (distinct (names fs)) a.0 in
+    event_again setup fs x (small_setup setup s) b.1 (identifiers fs fs a.1) h

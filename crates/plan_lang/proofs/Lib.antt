@@ -1,0 +1,12 @@
+pub mod DotLemmas
+pub mod EventsAgain
+pub mod FewLemmas
+pub mod FieldsAgain
+pub mod FlatLemmas
+pub mod GoodFields
+pub mod GoodEvents
+pub mod GoodPlans
+pub mod ObjectLemmas
+pub mod PathsAgain
+pub mod PlanLemmas
+pub mod TokensAgain

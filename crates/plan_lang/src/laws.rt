@@ -1,0 +1,30 @@
+//! What holds of the texts of plans.
+
+ghost use Rattle.std.specs.Prelude.{◌≡◌, ℕ, List, Some, None, Ok, option_and_then, true};
+ghost use Rattle.boki_types.specs.declared.event.Event.{Event};
+ghost use Rattle.boki_types.specs.declared.plan.Plan.{Plan};
+ghost use Rattle.boki_types.specs.declared.plan.Setup.{Setup};
+ghost use Rattle.boki_types.specs.declared.program.Function.{Function};
+ghost use Rattle.boki_model.specs.Plans.{is_setup, is_program, is_event, is_plan};
+ghost use Rattle.script_lang.specs.declared.rated.Rated.TheVariants.{Fine};
+ghost use Rattle.script_lang.specs.declared.token.Token.{Token};
+ghost use Rattle.script_lang.specs.Tokens.{tokens_in};
+ghost use Rattle.plan_lang.specs.declared.events.Entry.{Entry};
+ghost use Rattle.plan_lang.specs.Events.{entry_of};
+ghost use Rattle.plan_lang.specs.Printed.{event_text};
+ghost use Rattle.plan_lang.specs.Texts.{plan_of};
+
+/// An event that is read below a setup and functions, and whose call has no fault, is one that a plan with these can have.
+pub fn read_event_is_one()
+    ensures { (setup : Setup) (fs : List Function) (ts : List Token) (x : Entry) → entry_of setup fs ts ≡ Some (Fine x) → x.fault ≡ None → is_event setup fs x.event ≡ true }
+{}
+
+/// The plan that a text spells is within all limits, and its names and numbers of arguments are right.
+pub fn read_plan_is_one()
+    ensures { (text : List ℕ) (plan : Plan) → plan_of text ≡ Ok plan → is_plan plan ≡ true }
+{}
+
+/// The printed line of an event that a plan with this setup and these functions can have is read again as this event.
+pub fn printed_event_is_read_again()
+    ensures { (setup : Setup) (fs : List Function) (x : Event) → is_setup setup ≡ true → is_program (record { functions = fs }) ≡ true → is_event setup fs x ≡ true → option_and_then (entry_of setup fs) (tokens_in (event_text fs x)) ≡ Some (Fine (record { event = x; fault = None })) }
+{}

@@ -1,0 +1,223 @@
+//! The texts of plans and of turns.
+
+ghost use Rattle.std.specs.Prelude.{◌≡◌, ◌^◌, ◌<◌, length};
+ghost use Rattle.plan_lang.specs.Texts.{Gives, AddGives, at_line, whole_line, plan_line, head_fault, plan_made, plan_named, plan_ended, plan_of};
+ghost use Rattle.plan_lang.specs.Turns.{turn_line, turns_named, turns_ended, turns_of};
+
+use crate::bodies::Body;
+use crate::drafts::{PlanDraft, TurnDraft, fault_of_cut};
+use crate::fault::PlanFault;
+use crate::heads::Head;
+use crate::naming::first_fault_of;
+use boki_types::{Item, Kind, Plan, Program, Turn, TurnText};
+use lb_base::List;
+use script_lang::text::{LineFault, split_line};
+use std::alloc::Global;
+
+/// The most bytes of a plan's text.
+const MOST_PLAN: usize = 1048576;
+/// The most bytes of a text of turns.
+const MOST_TURNS: usize = 16777216;
+
+/// The fault of a line with this number.
+fn fault_at(line: u64, fault: LineFault) -> PlanFault
+    ensures { result ≡ at_line line fault }
+{
+    match fault {
+        LineFault::Refused(kind) => PlanFault::Refused { line, kind },
+        LineFault::Memory => PlanFault::Memory,
+    }
+}
+
+fn add_plan_line(
+    alloc: Global,
+    draft: PlanDraft,
+    number: u64,
+    line: &[u8],
+) -> Result<PlanDraft, PlanFault>
+    requires { length draft.head.draft.functions < 2 ^ 32 }
+    ensures { AddGives result number (whole_line plan_line 65536 number line.now draft) }
+{
+    match draft.add_line(alloc, number, line) {
+        Ok(draft) => Ok(draft),
+        Err(fault) => Err(fault_at(number, fault)),
+    }
+}
+
+/// The plan of a head and items.
+fn plan_of_head(head: Head, items: List<Item>) -> Plan
+    ensures { result ≡ plan_made head items }
+{
+    let Head {
+        due: _,
+        setup,
+        objects,
+        lines: _,
+        draft,
+    } = head;
+    Plan {
+        setup,
+        objects,
+        program: Program {
+            functions: draft.functions,
+        },
+        items,
+    }
+}
+
+/// The plan of a head and items, where the second pass finds nothing.
+fn name_plan(
+    alloc: Global,
+    head: Head,
+    items: List<Item>,
+    fault: Option<(u64, Kind)>,
+) -> Result<Plan, PlanFault>
+    ensures { Gives result (plan_named head items (head_fault head fault)) }
+{
+    match first_fault_of(alloc, &head, fault)? {
+        Some((line, kind)) => Err(PlanFault::Refused { line, kind }),
+        None => Ok(plan_of_head(head, items)),
+    }
+}
+
+/// The plan of lines that were read to the end of their text, behind the line before this number.
+fn finish_plan(alloc: Global, number: u64, draft: PlanDraft) -> Result<Plan, PlanFault>
+    ensures { Gives result (plan_ended number draft) }
+{
+    let PlanDraft { head, body } = draft;
+    let Body {
+        items,
+        count: _,
+        block,
+        fault,
+    } = body;
+    if !head.has_ended() {
+        return Err(PlanFault::Refused {
+            line: number,
+            kind: Kind::End,
+        });
+    }
+    match block {
+        Some(_) => Err(PlanFault::Refused {
+            line: number,
+            kind: Kind::End,
+        }),
+        None => name_plan(alloc, head, items, fault),
+    }
+}
+
+/// The plan that a text spells.
+///
+/// A text of more than 1,048,576 bytes is refused with line 0 and `Length`. Else it is refused with the number of the first line
+/// that has a fault, and the first kind that applies to the line: `Lines`, it stands behind line 65,536; `Utf8`, it isn't UTF-8;
+/// `Truncated`, it is the last and has no line feed; `Syntax`, it isn't in the grammar at its place; `Range`, a number, text,
+/// name or count is out of range; `Deep`, the limits of nesting or of operands are passed; `Events`, more than 200,000 events
+/// are counted, which for a repeat is found at its `end`. Where no line has such a fault, `End` comes where the text stops
+/// before `events`, in a function or in a repeat, with the number behind the last line. Else names and numbers of arguments are
+/// looked at, from the first line again: `Name`, a function, an object or a parameter is given twice, a function isn't known, or
+/// a variable is neither a parameter nor set by a line above in its function; `Arity`, a call has another number of arguments
+/// than the function. `Memory` comes where there is no room for the plan.
+pub fn parse_plan(alloc: Global, bytes: &[u8]) -> Result<Plan, PlanFault>
+    ensures { Gives result (plan_of bytes.now) }
+{
+    if bytes.len() > MOST_PLAN {
+        return Err(PlanFault::Refused {
+            line: 0,
+            kind: Kind::Length,
+        });
+    }
+    let mut draft = PlanDraft::new(alloc);
+    let mut rest = bytes;
+    let mut number = 1;
+    'lines: while let Some((line, after)) = split_line(rest) {
+        draft = add_plan_line(alloc, draft, number, line)?;
+        number += 1;
+        rest = after;
+    }
+    if !rest.is_empty() {
+        return Err(PlanFault::Refused {
+            line: number,
+            kind: fault_of_cut(65536, number, rest),
+        });
+    }
+    finish_plan(alloc, number, draft)
+}
+
+fn add_turn_line(
+    alloc: Global,
+    draft: TurnDraft,
+    number: u64,
+    line: &[u8],
+) -> Result<TurnDraft, PlanFault>
+    requires { length draft.head.draft.functions < 2 ^ 32 }
+    ensures { AddGives result number (whole_line turn_line 300000 number line.now draft) }
+{
+    match draft.add_line(alloc, number, line) {
+        Ok(draft) => Ok(draft),
+        Err(fault) => Err(fault_at(number, fault)),
+    }
+}
+
+/// The turns behind a head, where the second pass finds nothing.
+fn name_turns(
+    alloc: Global,
+    head: Head,
+    turns: List<(u64, Turn)>,
+    fault: Option<(u64, Kind)>,
+) -> Result<TurnText, PlanFault>
+    ensures { Gives result (turns_named head turns (head_fault head fault)) }
+{
+    match first_fault_of(alloc, &head, fault)? {
+        Some((line, kind)) => Err(PlanFault::Refused { line, kind }),
+        None => Ok(TurnText {
+            plan: plan_of_head(head, List::new(alloc)),
+            turns,
+        }),
+    }
+}
+
+/// The turns of lines that were read to the end of their text, behind the line before this number.
+fn finish_turns(alloc: Global, number: u64, draft: TurnDraft) -> Result<TurnText, PlanFault>
+    ensures { Gives result (turns_ended number draft) }
+{
+    let TurnDraft { head, turns, fault } = draft;
+    if head.has_ended() {
+        name_turns(alloc, head, turns, fault)
+    } else {
+        Err(PlanFault::Refused {
+            line: number,
+            kind: Kind::End,
+        })
+    }
+}
+
+/// The turns and the plan's head that a text spells; the plan has no events, and each turn has the number of its line, from 1.
+///
+/// The text is the head of a plan's text, a line `turns`, and a line for each turn: `turn submit Q F(VALUE, ..)`, `turn go P N` or
+/// `turn end P`. It is refused as [`parse_plan`] says, with a limit of 16,777,216 bytes and 300,000 lines, and without the kind
+/// `Events`; the number of operations of a turn is from 0 to 200,000.
+pub fn parse_turns(alloc: Global, bytes: &[u8]) -> Result<TurnText, PlanFault>
+    ensures { Gives result (turns_of bytes.now) }
+{
+    if bytes.len() > MOST_TURNS {
+        return Err(PlanFault::Refused {
+            line: 0,
+            kind: Kind::Length,
+        });
+    }
+    let mut draft = TurnDraft::new(alloc);
+    let mut rest = bytes;
+    let mut number = 1;
+    'lines: while let Some((line, after)) = split_line(rest) {
+        draft = add_turn_line(alloc, draft, number, line)?;
+        number += 1;
+        rest = after;
+    }
+    if !rest.is_empty() {
+        return Err(PlanFault::Refused {
+            line: number,
+            kind: fault_of_cut(300000, number, rest),
+        });
+    }
+    finish_turns(alloc, number, draft)
+}
