@@ -1,7 +1,8 @@
 -- A sink grows, one call after another; and calls of `run` that end before anything is written.
-use Rattle.std.proofs.Common.{ℕ, Bool, true, false, List, [], ◌++◌, Option, Some, None, Result, Ok, Err}
+use Rattle.std.proofs.Common.{◌≡◌, ℕ, Bool, true, false, List, [], ◌++◌, Option, Some, None, Result, Ok, Err, OnErr, ap, ◌∙◌, sym, append_assoc}
 use Rattle.std.specs.Prelude.{IfSome}
-use Rattle.lb_base.proofs.OutsideLemmas.{Appends-none, Appends-append, AppendsFront-none}
+use Rattle.lb_base.specs.Outside.{Appends, AppendsFront}
+use Rattle.lb_base.proofs.OutsideLemmas.{Appends-none, Appends-append, AppendsFront-none, AppendsFront-along, AppendsFront-within}
 use Rattle.boki_types.specs.declared.plan.Plan.{Plan}
 use Rattle.plan_lang.specs.declared.fault.PlanFault.{PlanFault}
 use Rattle.plan_lang.specs.declared.fault.PlanFault.TheVariants as faults
@@ -43,3 +44,19 @@ no_room_of (Err faults.Memory) old = Grows-none old
 pub no_room : (o old : Option (List ℕ)) → IfSome o (λ text. RunsText Memory text old old)
 no_room None old = tt
 no_room (Some text) old = no_room_of (plan_of text) old
+
+-- a text is written line by line: this much of it, and then a line, or a front of the line
+abbrev pub Taken : Option (List ℕ) → Option (List ℕ) → List ℕ → List ℕ → Type 0
+Taken a b text rest = (front : List ℕ) × (text ≡ front ++ rest) × Appends a b front
+
+pub taken_more : (a b c : Option (List ℕ)) (text rest line after : List ℕ) → Taken a b text rest → rest ≡ line ++ after → Appends b c line → Taken a c text after
+taken_more a b c text rest line after h e k = (
+  h.0 ++ line,
+  h.1 ∙ ap (λ l. h.0 ++ l) e ∙ sym (append_assoc h.0 line after),
+  Appends-append a b c h.0 line h.2 k,
+)
+
+pub taken_front : {T E : Type 0} (r : Result T E) (a b c : Option (List ℕ)) (text rest line after : List ℕ) → Taken a b text rest → rest ≡ line ++ after → AppendsFront b c line → OnErr r (AppendsFront a c text)
+taken_front (Ok x) a b c text rest line after h e k = tt
+taken_front (Err x) a b c text rest line after h e k =
+    AppendsFront-along a c (h.0 ++ (line ++ after)) text (sym (h.1 ∙ ap (λ l. h.0 ++ l) e)) (AppendsFront-within a b c h.0 line after h.2 k)

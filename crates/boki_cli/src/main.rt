@@ -21,6 +21,7 @@ use crate::words::Command;
 use lb_base::{Sink, Source};
 use std::alloc::Global;
 use std::env;
+use std::io::BufWriter;
 use std::process::ExitCode;
 
 /// The top call that the first word chooses, over any source and sink.
@@ -48,8 +49,17 @@ fn main(rt: HostRuntime) -> ExitCode {
             return ExitCode::from(Status::Memory.code());
         }
     }
+    let Ok(out) = BufWriter::new(alloc, rt.stdout()) else {
+        return ExitCode::from(Status::Memory.code());
+    };
     let mut source = StdSource::new(rt.stdin());
-    let mut sink = StdSink::new(rt.stdout());
+    let mut sink = StdSink::new(out);
     let status = call(alloc, words.as_slice(), &mut source, &mut sink);
+    // What the buffer kept is written now, and where that fails the text isn't whole.
+    let status = if sink.flush() {
+        status
+    } else {
+        Status::WriteFault
+    };
     ExitCode::from(status.code())
 }

@@ -8,7 +8,7 @@ ghost use Rattle.boki_cli.specs.Words.{is_run};
 
 use crate::small::{Machine, is_small, print_line, report_of};
 use crate::status::Status;
-use crate::telling::{refuse, tell_usage};
+use crate::telling::{refuse, tell_usage, write_text};
 use crate::words::accepts_run;
 use boki_types::{Event, Item, Kind, Plan, Program};
 use lb_base::{Memory, PutFault, ReadAll, Sink, Source, read_all, write_line};
@@ -137,7 +137,7 @@ fn tell_report<K: Sink>(
 {
     let report = report_of(alloc, machine.log())?;
     let text = print_report(alloc, &report, program)?;
-    write_line(sink, text.as_bytes())
+    write_text(sink, text.as_bytes())
 }
 
 /// Runs a plan of the small form on a machine, and writes its lines and its report.

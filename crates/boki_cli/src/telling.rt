@@ -1,7 +1,7 @@
 //! What the calls of the program write: the usage line, the line of a refusal, and texts as a whole.
 
-ghost use Rattle.std.specs.Prelude.{◌≡◌, ◌≢◌};
-ghost use Rattle.lb_base.specs.Outside.{Rose};
+ghost use Rattle.std.specs.Prelude.{◌≡◌, ◌≢◌, ◌<◌, ◌≤◌, ◌++◌, length, OnOk, OnErr, IsErrOf};
+ghost use Rattle.lb_base.specs.Outside.{Rose, Appends, AppendsFront};
 ghost use Rattle.boki_cli.specs.Due.{Meets, Wrote, due, printed, refusal, usage};
 
 use crate::status::Status;
@@ -43,6 +43,35 @@ pub fn refuse<K: Sink>(alloc: Global, line: u64, kind: Kind, sink: &mut K) -> St
     }
 }
 
+/// The first line of a text, with its line feed where it has one, and what follows it.
+fn cut_line(text: &[u8]) -> (&[u8], &[u8])
+    ensures whole { text.now ≡ result.0.now ++ result.1.now }
+    ensures shorter { 0 < length text.now → length result.1.now < length text.now }
+{
+    for (i, c) in text.iter().enumerate() {
+        if *c == b'\n' {
+            return text.split_at(i + 1);
+        }
+    }
+    text.split_at(text.len())
+}
+
+/// Writes a text line by line, each line with its line feed. After an error the sink took a front of the text.
+pub fn write_text<K: Sink>(sink: &mut K, text: &[u8]) -> Result<(), PutFault>
+    ensures ok { OnOk result (Appends (K.held sink.old) (K.held sink.new) text.now) }
+    ensures err { OnErr result (AppendsFront (K.held sink.old) (K.held sink.new) text.now) }
+    ensures fault { IsErrOf result PutFault.Fault → Rose (K.faults sink.old) (K.faults sink.new) }
+    ensures later { K.faults sink.old ≤ K.faults sink.new }
+{
+    let mut rest = text;
+    'lines: while !rest.is_empty() {
+        let (line, after) = cut_line(rest);
+        write_line(sink, line)?;
+        rest = after;
+    }
+    Ok(())
+}
+
 /// Writes a text that is all that is due.
 fn tell_text<K: Sink>(text: &[u8], sink: &mut K) -> Status
     ensures meets { Meets result (due Status.Done text.now) (K.held sink.old) (K.held sink.new) }
@@ -50,7 +79,7 @@ fn tell_text<K: Sink>(text: &[u8], sink: &mut K) -> Status
     ensures other { (result ≢ Status.ReadFault) × (result ≢ Status.Usage) }
     ensures write { result ≡ Status.WriteFault → Rose (K.faults sink.old) (K.faults sink.new) }
 {
-    match write_line(sink, text) {
+    match write_text(sink, text) {
         Ok(()) => Status::Done,
         Err(PutFault::Fault) => Status::WriteFault,
         Err(PutFault::Memory) => Status::Memory,

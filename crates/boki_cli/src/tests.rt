@@ -240,20 +240,39 @@ fn other_words_give_the_usage_line(rt: HostRuntime) -> Result<(), Fail> {
     Ok(())
 }
 
+/// The first plan, whose call has no argument.
+fn without_argument(alloc: Global) -> Result<String, AllocError> {
+    let mut text = String::new(alloc);
+    for (i, part) in FIRST.split("f(4)").enumerate() {
+        if i > 0 {
+            text.push_str("f()")?;
+        }
+        text.push_str(part)?;
+    }
+    Ok(text)
+}
+
+/// Whether `run` and `check` both refuse the text with this line.
+fn is_refused(alloc: Global, text: &[u8], line: &str) -> Result<bool, AllocError> {
+    for word in ["run", "check"] {
+        let (status, sink) = answer(alloc, &[word], text)?;
+        if status.code() != 1 || sink.bytes() != line.as_bytes() {
+            return Ok(false);
+        }
+    }
+    Ok(true)
+}
+
 #[test]
 fn bad_texts_are_refused_by_line_and_kind(rt: HostRuntime) -> Result<(), Fail> {
     let first = FIRST.as_bytes();
     let (whole, _) = first.split_at(first.len().saturating_sub(1));
     let (head, _) = first.split_at(first.len().min(77));
-    let texts: [(&[u8], &str); 14] = [
+    let texts: [(&[u8], &str); 13] = [
         (b"setup 1 1 17 R\nevents\n", "refused 1 range\n"),
         (
             b"setup 1 1 1 R\nevents\nsubmit 1 1 nobody()\n",
             "refused 3 name\n",
-        ),
-        (
-            b"setup 1 1 1 R\nfunction f(a)\nend\nevents\nsubmit 1 1 f()\n",
-            "refused 5 arity\n",
         ),
         (b"setup 1 1 1 R\nevents", "refused 2 truncated\n"),
         (b"setup 1 1 1 R\n", "refused 2 end\n"),
@@ -277,12 +296,10 @@ fn bad_texts_are_refused_by_line_and_kind(rt: HostRuntime) -> Result<(), Fail> {
         ),
     ];
     for (text, line) in texts {
-        for word in ["run", "check"] {
-            let (status, sink) = answer(rt.alloc(), &[word], text)?;
-            assert_eq!(rt; status.code(), 1);
-            assert_eq!(rt; sink.bytes(), line.as_bytes());
-        }
+        assert!(rt; is_refused(rt.alloc(), text, line)?, "not {line}");
     }
+    let text = without_argument(rt.alloc())?;
+    assert!(rt; is_refused(rt.alloc(), text.as_bytes(), "refused 8 arity\n")?);
     Ok(())
 }
 
@@ -328,23 +345,49 @@ fn a_sink_that_takes_5_bytes_a_call_gets_all(rt: HostRuntime) -> Result<(), Fail
 }
 
 #[test]
-fn a_failing_put_leaves_a_prefix(rt: HostRuntime) -> Result<(), Fail> {
-    let lines = FIRST_LINES.as_bytes();
+fn a_failing_put_leaves_the_lines_before(rt: HostRuntime) -> Result<(), Fail> {
+    // 14 lines of events and 8 of the report, each handed over in one piece.
+    let mut lines = 0;
     let mut before = 0;
-    // In pieces of 5 bytes the 14 lines and the report take 66 calls.
-    for k in 1..67u64 {
-        let (status, sink) = run_first(rt.alloc(), 5, 0, k)?;
+    for line in FIRST_LINES.split_inclusive('\n') {
+        lines += 1;
+        let (status, sink) = run_first(rt.alloc(), 4096, 0, lines)?;
         assert_eq!(rt; status, Status::WriteFault);
-        assert!(rt; lines.starts_with(sink.bytes()));
-        assert!(rt; k == 1 || before < sink.bytes().len());
-        before = sink.bytes().len();
+        assert!(rt; FIRST_LINES.as_bytes().starts_with(sink.bytes()));
+        assert_eq!(rt; sink.bytes().len(), before);
+        before += line.len();
     }
-    let (status, _) = run_first(rt.alloc(), 5, 0, 67)?;
+    assert_eq!(rt; lines, 22);
+    let (status, _) = run_first(rt.alloc(), 4096, 0, 23)?;
     assert_eq!(rt; status, Status::Done);
-    let (_, sink) = run_first(rt.alloc(), 4096, 0, 3)?;
-    assert_eq!(rt; sink.bytes(), b"1 sent 1.1\n2 sync 1\n".as_slice());
     let (_, sink) = run_first(rt.alloc(), 5, 0, 3)?;
     assert_eq!(rt; sink.bytes(), b"1 sent 1.1".as_slice());
+    Ok(())
+}
+
+/// The words `check` over the loose plan, and a sink whose call `put` fails.
+fn check_loose(alloc: Global, put: u64) -> Result<(Status, MemSink), AllocError> {
+    let words = words_of(alloc, &["check"])?;
+    let mut source = SureSource::new(Vec::from_slice(alloc, LOOSE.as_bytes())?);
+    let mut sink = MemSink::new(alloc, 4096, vec![in alloc; put]?);
+    let status = call(alloc, words.as_slice(), &mut source, &mut sink);
+    Ok((status, sink))
+}
+
+#[test]
+fn a_plan_is_written_line_by_line(rt: HostRuntime) -> Result<(), Fail> {
+    let mut lines = 0;
+    let mut before = 0;
+    for line in CANONICAL.split_inclusive('\n') {
+        lines += 1;
+        let (status, sink) = check_loose(rt.alloc(), lines)?;
+        assert_eq!(rt; status, Status::WriteFault);
+        assert_eq!(rt; sink.bytes().len(), before);
+        before += line.len();
+    }
+    let (status, sink) = check_loose(rt.alloc(), 0)?;
+    assert_eq!(rt; status, Status::Done);
+    assert_eq!(rt; sink.bytes(), CANONICAL.as_bytes());
     Ok(())
 }
 
