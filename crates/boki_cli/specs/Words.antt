@@ -1,7 +1,9 @@
--- Which words the calls of the program accept. They stand without the program's name.
-use Rattle.std.specs.Prelude.{ℕ, ◌&&◌, Bool, false, List, [], ◌∷◌, Option, Some, None, nat_le, if◌then◌else◌, codes}
+-- Which call the first word chooses, and which words each call accepts. They stand without the program's name.
+use Rattle.std.specs.Prelude.{ℕ, Bool, true, false, List, [], ◌∷◌, Option, Some, None, if◌then◌else◌, codes}
 use Rattle.std.specs.Str.{bytes_eq}
-use Rattle.lb_base.specs.Numeral.{num_of}
+use Rattle.boki_words.specs.Words.{request}
+use Rattle.boki_words.specs.declared.request.Request.{Request}
+use Rattle.boki_words.specs.declared.request.Request.TheVariants as asks
 use Rattle.boki_cli.specs.declared.words.Command.{Command}
 use Rattle.boki_cli.specs.declared.words.Command.TheVariants.{Run, Check, Make}
 
@@ -13,32 +15,32 @@ abbrev pub chosen : List (List ℕ) → Command
 chosen [] = Run
 chosen (word ∷ words) = named word
 
--- exactly the word `run`
+-- words that are accepted and ask for a run
+abbrev pub asks_run : Option Request → Bool
+asks_run (Some asks.Run) = true
+asks_run (Some asks.Check) = false
+asks_run (Some (asks.Make n)) = false
+asks_run None = false
+
 abbrev pub is_run : List (List ℕ) → Bool
-is_run [] = false
-is_run (word ∷ []) = bytes_eq word (codes "run")
-is_run (word ∷ other ∷ others) = false
+is_run words = asks_run (request words)
 
--- exactly the word `check`
+-- words that are accepted and ask for a check
+abbrev pub asks_check : Option Request → Bool
+asks_check (Some asks.Run) = false
+asks_check (Some asks.Check) = true
+asks_check (Some (asks.Make n)) = false
+asks_check None = false
+
 abbrev pub is_check : List (List ℕ) → Bool
-is_check [] = false
-is_check (word ∷ []) = bytes_eq word (codes "check")
-is_check (word ∷ other ∷ others) = false
+is_check words = asks_check (request words)
 
--- a number of transfers, from 1 to 4,000
-abbrev pub few : Option ℕ → Option ℕ
-few None = None
-few (Some n) = if nat_le 1 n && nat_le n 4000 then Some n else None
+-- the number of transfers that words ask for
+abbrev pub transfers_of : Option Request → Option ℕ
+transfers_of (Some asks.Run) = None
+transfers_of (Some asks.Check) = None
+transfers_of (Some (asks.Make n)) = Some n
+transfers_of None = None
 
--- the number in its one spelling, and the option, in either order
-abbrev pub few_beside : List ℕ → List ℕ → Option ℕ
-few_beside word other =
-    if bytes_eq word (codes "--plan") then few (num_of other) else (if bytes_eq other (codes "--plan") then few (num_of word) else None)
-
--- The number of transfers that `make` is asked for: the word `make`, and behind it a number and `--plan` in either order.
 abbrev pub asked : List (List ℕ) → Option ℕ
-asked [] = None
-asked (make ∷ []) = None
-asked (make ∷ word ∷ []) = None
-asked (make ∷ word ∷ other ∷ []) = if bytes_eq make (codes "make") then few_beside word other else None
-asked (make ∷ word ∷ other ∷ last ∷ others) = None
+asked words = transfers_of (request words)

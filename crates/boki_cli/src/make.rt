@@ -47,7 +47,10 @@ pub fn make_top<S: Source, K: Sink>(
     ensures read { result ≢ Status.ReadFault }
     ensures write { result ≡ Status.WriteFault → Rose (K.faults sink.old) (K.faults sink.new) }
 {
-    match asked_of(words) {
+    let Ok(asked) = asked_of(alloc, words) else {
+        return Status::Memory;
+    };
+    match asked {
         Some(n) => tell_transfers(alloc, n, sink),
         None => tell_usage(sink),
     }

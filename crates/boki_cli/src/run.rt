@@ -230,7 +230,10 @@ pub fn run_top<S: Source, K: Sink>(
     ensures read { result ≡ Status.ReadFault → Rose (S.faults source.old) (S.faults source.new) }
     ensures write { result ≡ Status.WriteFault → Rose (K.faults sink.old) (K.faults sink.new) }
 {
-    if !accepts_run(words) {
+    let Ok(accepted) = accepts_run(alloc, words) else {
+        return Status::Memory;
+    };
+    if !accepted {
         return tell_usage(sink);
     }
     match read_all(alloc, source, 1_048_576) {

@@ -1,10 +1,12 @@
-//! The words of the program: which call they choose, and which each call accepts.
+//! The words of the program: which call the first word chooses, and which words each call accepts.
 
-ghost use Rattle.std.specs.Prelude.{◌≡◌, ◌≤◌, map, string_bytes, IfSome};
-ghost use Rattle.lb_base.specs.Numeral.{num_of};
-ghost use Rattle.boki_cli.specs.Words.{asked, chosen, few, few_beside, is_check, is_run, named};
+ghost use Rattle.std.specs.Prelude.{◌≡◌, ◌≤◌, map, string_bytes, IfOk, IfSome};
+ghost use Rattle.boki_words.specs.Words.{IsFew};
+ghost use Rattle.boki_cli.specs.Words.{asked, asks_check, asks_run, chosen, is_check, is_run, named, transfers_of};
 
-use lb_base::read_num;
+use boki_words::{Request, request_of};
+use lb_base::Memory;
+use std::alloc::Global;
 
 /// The calls that the first word chooses.
 #[derive(Clone, Copy, Debug, PartialEq, Eq)]
@@ -39,75 +41,59 @@ impl Command {
     }
 }
 
-/// Whether the words are exactly `run`.
-pub fn accepts_run(words: &[String]) -> bool
-    ensures { result ≡ is_run (map string_bytes words.now) }
+fn asks_run(request: Option<Request>) -> bool
+    ensures { result ≡ asks_run request }
 {
-    match words {
-        [word] => word.as_str() == "run",
-        [] => false,
-        [_, _, ..] => false,
+    match request {
+        Some(Request::Run) => true,
+        Some(Request::Check) => false,
+        Some(Request::Make { transfers: _ }) => false,
+        None => false,
     }
 }
 
-/// Whether the words are exactly `check`.
-pub fn accepts_check(words: &[String]) -> bool
-    ensures { result ≡ is_check (map string_bytes words.now) }
+fn asks_check(request: Option<Request>) -> bool
+    ensures { result ≡ asks_check request }
 {
-    match words {
-        [word] => word.as_str() == "check",
-        [] => false,
-        [_, _, ..] => false,
+    match request {
+        Some(Request::Run) => false,
+        Some(Request::Check) => true,
+        Some(Request::Make { transfers: _ }) => false,
+        None => false,
     }
 }
 
-/// The number of transfers that a word spells, from 1 to 4,000.
-fn few_in(word: &str) -> Option<u32>
-    ensures value { result ≡ few (num_of word.now) }
+fn transfers_of(request: Option<Request>) -> Option<u32>
+    requires { IsFew request }
+    ensures value { result ≡ transfers_of request }
     ensures range { IfSome result (λ n. (1 ≤ n) × (n ≤ 4000)) }
 {
-    match read_num(word) {
-        Some(n) => {
-            if 1 <= n && n <= 4000 {
-                Some(n as u32)
-            } else {
-                None
-            }
-        }
+    match request {
+        Some(Request::Run) => None,
+        Some(Request::Check) => None,
+        Some(Request::Make { transfers }) => Some(transfers),
         None => None,
     }
 }
 
-/// The number of two words, of which the other one is `--plan`.
-fn few_in_two(word: &str, other: &str) -> Option<u32>
-    ensures value { result ≡ few_beside word.now other.now }
-    ensures range { IfSome result (λ n. (1 ≤ n) × (n ≤ 4000)) }
+/// Whether the words are accepted and ask for a run.
+pub fn accepts_run(alloc: Global, words: &[String]) -> Result<bool, Memory>
+    ensures { IfOk result (λ b. b ≡ is_run (map string_bytes words.now)) }
 {
-    if word == "--plan" {
-        few_in(other)
-    } else if other == "--plan" {
-        few_in(word)
-    } else {
-        None
-    }
+    Ok(asks_run(request_of(alloc, words)?))
 }
 
-/// How many transfers `make` is asked for, from 1 to 4,000, where the words are `make N --plan` or `make --plan N`.
-pub fn asked_of(words: &[String]) -> Option<u32>
-    ensures value { result ≡ asked (map string_bytes words.now) }
-    ensures range { IfSome result (λ n. (1 ≤ n) × (n ≤ 4000)) }
+/// Whether the words are accepted and ask for a check.
+pub fn accepts_check(alloc: Global, words: &[String]) -> Result<bool, Memory>
+    ensures { IfOk result (λ b. b ≡ is_check (map string_bytes words.now)) }
 {
-    match words {
-        [make, word, other] => {
-            if make.as_str() == "make" {
-                few_in_two(word.as_str(), other.as_str())
-            } else {
-                None
-            }
-        }
-        [] => None,
-        [_] => None,
-        [_, _] => None,
-        [_, _, _, _, ..] => None,
-    }
+    Ok(asks_check(request_of(alloc, words)?))
+}
+
+/// How many transfers the words ask for, from 1 to 4,000, where they are accepted and ask for a plan.
+pub fn asked_of(alloc: Global, words: &[String]) -> Result<Option<u32>, Memory>
+    ensures value { IfOk result (λ n. n ≡ asked (map string_bytes words.now)) }
+    ensures range { IfOk result (λ n. IfSome n (λ k. (1 ≤ k) × (k ≤ 4000))) }
+{
+    Ok(transfers_of(request_of(alloc, words)?))
 }
