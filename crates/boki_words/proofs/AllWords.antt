@@ -1,5 +1,5 @@
 -- All words: what `clap` makes of them is what the table says.
-use Rattle.std.proofs.Common.{◌≡◌, ◌≢◌, ◌∙◌, ℕ, Bool, true, false, true≢false, refl, sym, ap, subst, List, [], ◌∷◌, Option, Some, None, codes, inl, inr}
+use Rattle.std.proofs.Common.{◌≡◌, ◌≢◌, ◌∙◌, Bool, true, false, true≢false, refl, sym, ap, subst, List, [], ◌∷◌, Option, Some, None, codes, inl, inr}
 use Rattle.std.specs.Prelude.{find}
 use Rattle.std.specs.Str.{bytes_eq}
 use Rattle.std.proofs.lemmas.Slice.Eq.{bytes_eq-Decides}
@@ -113,6 +113,6 @@ pub refused : (app : App) (words : List Text) (e : Error) → app ≡ boki → h
 refused app words e is clear faults other = elim (faults (ap is_simple_and_free is ∙ boki_free)) [
   | inl memory ↦ absurd (other memory)
   | inr among ↦
-        among_fails (kind_of e) (fault_of app words) (subcommand_of app words) (request words) among
-        (subst (λ (a : App). Reads (fault_of a words) (subcommand_of a words) (request words)) (sym is) (all_read words clear))
+      among_fails (kind_of e) (fault_of app words) (subcommand_of app words) (request words) among
+      (subst (λ (a : App). Reads (fault_of a words) (subcommand_of a words) (request words)) (sym is) (all_read words clear))
 ]

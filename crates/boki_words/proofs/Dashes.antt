@@ -1,5 +1,5 @@
 -- The word `--`: words that lack it, and that the table asks for nothing where it stands.
-use Rattle.std.proofs.Common.{◌≡◌, ◌||◌, ℕ, Bool, true, false, true≢false, refl, sym, List, [], ◌∷◌, Option, Some, None, codes}
+use Rattle.std.proofs.Common.{◌≡◌, ◌||◌, ℕ, Bool, true, false, true≢false, refl, sym, List, [], ◌∷◌, None, codes}
 use Rattle.std.specs.Str.{bytes_eq}
 use Rattle.std.proofs.lemmas.Slice.Eq.{bytes_eq-Decides}
 use Rattle.boki_words.specs.Words.{check_request, has_dashes, make_request, request, run_request}

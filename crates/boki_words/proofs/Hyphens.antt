@@ -1,12 +1,12 @@
 -- Words that begin with hyphens: they spell no number, and which of them are `--plan`.
-use Rattle.std.proofs.Common.{◌≡◌, ◌≢◌, ◌∙◌, ◌<◌, ◌==◌, ◌&&◌, ℕ, zero, suc, Bool, true, false, true≢false, cond, refl, sym, ap, arith, List, [], ◌∷◌, Option, Some, None, is_some, length, get_or, eqb-true}
+use Rattle.std.proofs.Common.{◌≡◌, ◌≢◌, ◌∙◌, ◌<◌, ◌==◌, ◌&&◌, ℕ, zero, suc, Bool, true, false, true≢false, refl, sym, ap, arith, List, [], ◌∷◌, Option, Some, None, is_some, length, get_or, eqb-true}
 use Rattle.std.specs.Prelude.{option_and_then, nat_lt}
 use Rattle.std.specs.List.{list_any}
 use Rattle.std.proofs.lemmas.Bool.Decides.{nat_tests}
 use Rattle.clap.specs.Lexer.{has_byte, long_of, long_of_rest, name_and_value, short_of, short_of_rest, strip_byte}
 use Rattle.clap.proofs.CutLemmas.{Lacks}
 use Rattle.clap.proofs.LexerLemmas.{name_and_value-without}
-use Rattle.lb_base.specs.Numeral.{is_numeral, num_of}
+use Rattle.lb_base.specs.Numeral.{num_of}
 use Rattle.lb_base.proofs.NumeralLemmas.{no_num}
 
 and_false : (b : Bool) → ((b && false) && true) ≡ false

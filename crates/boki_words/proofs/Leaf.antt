@@ -1,12 +1,12 @@
 -- How a walk reads its first word, at a command with no argument, and what is left of a walk that fails.
-use Rattle.std.proofs.Common.{◌≡◌, ◌∙◌, ℕ, Bool, true, false, true≢false, cond, refl, sym, List, [], ◌∷◌, Option, Some, None, codes, length}
-use Rattle.std.specs.Prelude.{encode_utf8, find, slice_get}
+use Rattle.std.proofs.Common.{◌≡◌, ℕ, Bool, true, false, true≢false, cond, refl, sym, List, [], ◌∷◌, Option, Some, None, codes}
+use Rattle.std.specs.Prelude.{find, slice_get}
 use Rattle.std.specs.Str.{bytes_eq, chars}
 use Rattle.clap.specs.Lexer.{long_of, short_of}
 use Rattle.clap.specs.Kinds.{Kinds, or_else}
-use Rattle.clap.specs.Walk.{Names, Text, Walk, answers_to, bundle_met, idle, nothing_held, plain, short_word, walk_from, walked}
+use Rattle.clap.specs.Walk.{Names, Text, Walk, answers_to, idle, nothing_held, short_word, walk_from}
 use Rattle.clap.specs.Simple.{Shape}
-use Rattle.clap.specs.Faults.{flags_fault, bundle_fault, level_fault, step_fault, stray_fault, turn_fault, walk_fault}
+use Rattle.clap.specs.Faults.{bundle_fault, level_fault, step_fault, stray_fault, turn_fault, walk_fault}
 use Rattle.clap.specs.declared.error.kind.ErrorKind.TheVariants as kind
 use Rattle.clap.proofs.OnLiterals.{clap_on_literals}
 

@@ -6,3 +6,4 @@ pub mod Leaf
 pub mod MakeWalk
 pub mod MakeWords
 pub mod Outcomes
+pub mod Range

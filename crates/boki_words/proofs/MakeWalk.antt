@@ -1,18 +1,18 @@
 -- What each kind of word does behind `make`.
-use Rattle.std.proofs.Common.{◌≡◌, ◌≢◌, ◌∙◌, ℕ, Bool, true, false, true≢false, refl, sym, ap, List, [], ◌∷◌, Option, Some, None, codes}
+use Rattle.std.proofs.Common.{◌≡◌, ◌∙◌, ℕ, Bool, true, false, true≢false, refl, sym, ap, List, [], ◌∷◌, Option, Some, None, codes}
 use Rattle.std.specs.Prelude.{slice_get}
 use Rattle.std.specs.Str.{bytes_eq, chars}
 use Rattle.std.proofs.lemmas.Slice.Eq.{bytes_eq-Decides}
 use Rattle.clap.specs.Lexer.{long_of, short_of}
-use Rattle.clap.specs.Walk.{Held, Row, Rule, Text, Walk, idle, used, value, walked, word_met}
+use Rattle.clap.specs.Walk.{Held, Row, Text, Walk, idle, value, word_met}
 use Rattle.clap.specs.Simple.{Shape}
-use Rattle.clap.specs.Faults.{turn_fault, word_fault}
+use Rattle.clap.specs.Faults.{word_fault}
 use Rattle.clap.proofs.OnLiterals.{clap_on_literals}
 use Rattle.lb_base.specs.Numeral.{num_of}
-use Rattle.boki_words.specs.CommandLine.{make, plan, transfers}
+use Rattle.boki_words.specs.CommandLine.{make}
 use Rattle.boki_words.proofs.Entering.{inner}
 use Rattle.boki_words.proofs.Hyphens.{long_is, long_no_num, short_no_num}
-use Rattle.boki_words.proofs.Leaf.{fails, fault_first, fault_second}
+use Rattle.boki_words.proofs.Leaf.{fails}
 
 -- `make` as building leaves it
 abbrev pub made : Shape
@@ -60,12 +60,15 @@ kind_of_word word dashes = go (bytes_eq word (codes "--plan")) refl
     bundled other e [] f o g = is_plain other (λ rows pending position. (rw (dashes, e, f) refl, rw (dashes, e, f) refl))
     bundled other e (x ∷ xs) f None g = is_plain other (λ rows pending position. (rw (dashes, e, f, g) refl, rw (dashes, e, f, g) refl))
     bundled other e (x ∷ xs) f (Some c) g = is_refused other (short_no_num word (rw f refl), λ rows pending. rw (dashes, e, f, g) refl)
+
     unnamed : bytes_eq word (codes "--plan") ≡ false → long_of word ≡ None → (o : Option Text) → short_of word ≡ o → WordKind word
     unnamed other e None f = is_plain other (λ rows pending position. (rw (dashes, e, f) refl, rw (dashes, e, f) refl))
     unnamed other e (Some flags) f = bundled other e flags f (slice_get (chars flags) 0) refl
+
     then : bytes_eq word (codes "--plan") ≡ false → (o : Option (Text × Option Text)) → long_of word ≡ o → WordKind word
     then other (Some p) e = is_refused other (long_no_num word (rw e refl), long_fails word p.0 p.1 dashes other e)
     then other None e = unnamed other e (short_of word) refl
+
     go : (b : Bool) → bytes_eq word (codes "--plan") ≡ b → WordKind word
     go true e = is_plan ((bytes_eq-Decides word (codes "--plan")).0 e)
     go false e = then e (long_of word) refl

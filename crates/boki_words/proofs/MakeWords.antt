@@ -1,5 +1,5 @@
 -- The words behind `make`: what `clap` makes of them is what the table says.
-use Rattle.std.proofs.Common.{◌≡◌, ◌∙◌, ◌||◌, ℕ, Bool, true, false, true≢false, refl, sym, ap, ap₂, List, [], ◌∷◌, Option, Some, None, codes, inl, inr}
+use Rattle.std.proofs.Common.{◌≡◌, ◌∙◌, ℕ, Bool, true, false, refl, ap, ap₂, List, [], ◌∷◌, Option, Some, None, codes, inl, inr}
 use Rattle.std.specs.Prelude.{unwrap_or}
 use Rattle.std.specs.Str.{bytes_eq}
 use Rattle.clap.specs.Kinds.{Kinds, or_else}
@@ -8,7 +8,7 @@ use Rattle.clap.specs.Simple.{rows_at}
 use Rattle.clap.specs.Faults.{check_fault, defaults_fault, level_fault, settle_fault, step_fault, turn_fault, walk_fault, word_fault}
 use Rattle.clap.proofs.OnLiterals.{clap_on_literals}
 use Rattle.lb_base.specs.Numeral.{num_of}
-use Rattle.boki_words.specs.CommandLine.{HasFlagIn, answer, plan, transfers}
+use Rattle.boki_words.specs.CommandLine.{plan, transfers}
 use Rattle.boki_words.specs.Words.{few, has_dashes, make_request}
 use Rattle.boki_words.specs.declared.request.Request.{Request}
 use Rattle.boki_words.proofs.Dashes.{first_clear, rest_clear}

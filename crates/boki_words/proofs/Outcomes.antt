@@ -1,6 +1,6 @@
 -- What stands between the words and the request: the faults that `clap` finds, and the subcommand with its matches.
-use Rattle.std.proofs.Common.{◌≡◌, ◌∙◌, Bool, true, false, true≢false, refl, sym, List, [], ◌∷◌, Option, Some, None, Result, Ok, Err, inl, inr}
-use Rattle.clap.specs.Kinds.{FailsBy, HasKind, IsAmong, Kinds}
+use Rattle.std.proofs.Common.{◌≡◌, true, true≢false, sym, List, [], ◌∷◌, Option, None}
+use Rattle.clap.specs.Kinds.{IsAmong, Kinds}
 use Rattle.clap.specs.Walk.{Row, Text}
 use Rattle.clap.specs.declared.error.kind.ErrorKind.{ErrorKind}
 use Rattle.boki_words.specs.CommandLine.{HasFlagIn, answer}

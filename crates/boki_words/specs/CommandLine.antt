@@ -1,5 +1,5 @@
 -- The command line as `clap` sees it, and what its matches ask for.
-use Rattle.std.specs.Prelude.{◌≡◌, ◌⊎◌, ℕ, List, [], ◌∷◌, Option, Some, None, true, if◌then◌else◌, codes, option_and_then}
+use Rattle.std.specs.Prelude.{◌≡◌, ◌⊎◌, List, Option, Some, None, true, if◌then◌else◌, codes, option_and_then}
 use Rattle.std.specs.Str.{bytes_eq}
 use Rattle.lb_base.specs.Numeral.{num_of}
 use Rattle.clap.specs.Walk.{Row, Rule, Text, first_of, one_of}

@@ -1,5 +1,5 @@
 -- Which words the program accepts, and what they ask for. They stand without the program's name.
-use Rattle.std.specs.Prelude.{ℕ, ◌&&◌, Bool, false, List, [], ◌∷◌, Option, Some, None, nat_le, if◌then◌else◌, codes}
+use Rattle.std.specs.Prelude.{ℕ, ◌≤◌, ◌&&◌, Bool, List, [], ◌∷◌, Option, Some, None, nat_le, if◌then◌else◌, codes}
 use Rattle.std.specs.List.{list_any}
 use Rattle.std.specs.Str.{bytes_eq}
 use Rattle.lb_base.specs.Numeral.{num_of}
@@ -40,3 +40,10 @@ request (name ∷ words) =
     if bytes_eq name (codes "run") then run_request words
     else (if bytes_eq name (codes "check") then check_request words
     else (if bytes_eq name (codes "make") then make_request words else None))
+
+-- the number of transfers is from 1 to 4,000
+abbrev pub IsFew : Option Request → Type 0
+IsFew None = Unit {0}
+IsFew (Some Run) = Unit {0}
+IsFew (Some Check) = Unit {0}
+IsFew (Some (Make n)) = (1 ≤ n) × (n ≤ 4000)

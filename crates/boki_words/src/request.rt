@@ -8,7 +8,7 @@ ghost use Rattle.clap.specs.Walk.{rows_of};
 ghost use Rattle.clap.specs.Simple.{subcommand_rows_of};
 ghost use Rattle.lb_base.specs.Numeral.{num_of};
 ghost use Rattle.boki_words.specs.CommandLine.{HasFlag, HasFlagIn, answer, make_answer};
-ghost use Rattle.boki_words.specs.Words.{few, has_dashes, request};
+ghost use Rattle.boki_words.specs.Words.{IsFew, few, request};
 
 use crate::command_line::command_line;
 use clap::ArgMatches;
@@ -83,7 +83,8 @@ fn has_dashes(words: &[String]) -> bool
 /// `run`, `check`, `make N --plan` and `make --plan N` are accepted, with N a numeral from 1 to 4,000.
 /// It fails with `Memory` only where there is no room for splitting them.
 pub fn request_of(alloc: Global, words: &[String]) -> Result<Option<Request>, Memory>
-    ensures { IfOk result (λ r. r ≡ request (map string_bytes words.now)) }
+    ensures value { IfOk result (λ r. r ≡ request (map string_bytes words.now)) }
+    ensures few { IfOk result (λ r. IsFew r) }
 {
     if has_dashes(words) {
         return Ok(None);

@@ -1,4 +1,4 @@
-use Rattle.std.proofs.Common.{◌≡◌, ◌∙◌, List, Option, Some, None, codes, refl, sym, ap, inl, inr, true≢false}
+use Rattle.std.proofs.Common.{◌≡◌, ◌∙◌, List, Option, Some, None, codes, refl, sym, inl, inr, true≢false}
 use Rattle.std.specs.Prelude.{option_and_then}
 use Rattle.clap.specs.Matches.{found_of}
 use Rattle.clap.specs.Walk.{Row, Text, first_of, one_of, rows_of}
@@ -19,8 +19,8 @@ flagged rows o h given e = elim h [
 pub returns-then-not-get_flag : goal.returns-then-not-get_flag
 returns-then-not-get_flag c h = elim h [
   | inl e ↦
-        let given = c.get_flag.ensures.value (one_text-rows (found_of c.args.matches.now) (codes "plan") ∙ e) in
-        absurd (true≢false (sym given ∙ c.if-not-get_flag.true))
+      let given = c.get_flag.ensures.value (one_text-rows (found_of c.args.matches.now) (codes "plan") ∙ e) in
+      absurd (true≢false (sym given ∙ c.if-not-get_flag.true))
   | inr e ↦ rw e refl
 ]
 
