@@ -1,14 +1,17 @@
 -- A sink grows, one call after another; and calls of `run` that end before anything is written.
-use Rattle.std.proofs.Common.{◌≡◌, ℕ, Bool, true, false, List, [], ◌++◌, Option, Some, None, Result, Ok, Err, OnErr, ap, ◌∙◌, sym, append_assoc}
-use Rattle.std.specs.Prelude.{IfSome}
+use Rattle.std.proofs.Common.{◌≡◌, ℕ, ◌<◌, Bool, true, false, cond, List, [], ◌++◌, length, drop, Option, Some, None, Result, Ok, Err, OnErr, ap, ◌∙◌, sym, subst, append_assoc, arith}
+use Rattle.std.specs.Prelude.{IfSome, nat_lt}
+use Rattle.std.proofs.lemmas.Bool.Decides.{nat_tests}
 use Rattle.lb_base.specs.Outside.{Appends, AppendsFront}
 use Rattle.lb_base.proofs.OutsideLemmas.{Appends-none, Appends-append, AppendsFront-none, AppendsFront-along, AppendsFront-within}
 use Rattle.boki_types.specs.declared.plan.Plan.{Plan}
 use Rattle.plan_lang.specs.declared.fault.PlanFault.{PlanFault}
 use Rattle.plan_lang.specs.declared.fault.PlanFault.TheVariants as faults
-use Rattle.plan_lang.specs.Texts.{plan_of}
+use Rattle.plan_lang.specs.Texts.{plan_in, plan_of, refuse}
+use Rattle.boki_types.specs.declared.kind.Kind.TheVariants as kind
+use Rattle.boki_cli.specs.declared.status.Status.{Status}
 use Rattle.boki_cli.specs.declared.status.Status.TheVariants.{ReadFault, Memory}
-use Rattle.boki_cli.specs.Due.{Grows, Runs, RunsBy, RunsText}
+use Rattle.boki_cli.specs.Due.{Due, due_by, refusal, printed, check_due, Meets, Grows, Runs, RunsBy, RunsText}
 use Rattle.boki_cli.specs.Small.{is_small}
 
 pub Grows-none : (a : Option (List ℕ)) → Grows a a
@@ -60,3 +63,12 @@ pub taken_front : {T E : Type 0} (r : Result T E) (a b c : Option (List ℕ)) (t
 taken_front (Ok x) a b c text rest line after h e k = tt
 taken_front (Err x) a b c text rest line after h e k =
     AppendsFront-along a c (h.0 ++ (line ++ after)) text (sym (h.1 ∙ ap (λ l. h.0 ++ l) e)) (AppendsFront-within a b c h.0 line after h.2 k)
+
+-- the text was too long
+pub too_long : (s : Status) (o rest old new : Option (List ℕ)) → IfSome o (λ text. (1048576 < length text) × (rest ≡ Some (drop 1048577 text))) → Meets s (refusal 0 kind.Length) old new → IfSome o (λ text. Meets s (check_due text) old new)
+too_long s None rest old new h m = tt
+too_long s (Some text) rest old new h m =
+    let long : nat_lt 1048576 (length text) ≡ true = grind (arith, nat_tests, h.0) in
+    let due : Bool → Due = λ b. due_by printed (cond b (Err (refuse 0 kind.Length)) (plan_in text)) in
+    let P : Due → Type 0 = λ d. Meets s d old new in
+    subst P (sym (ap due long)) m
