@@ -9,4 +9,5 @@ pub mod GoodPlans
 pub mod ObjectLemmas
 pub mod PathsAgain
 pub mod PlanLemmas
+pub mod ScansAgain
 pub mod TokensAgain
