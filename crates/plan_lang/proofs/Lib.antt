@@ -7,6 +7,7 @@ pub mod GoodFields
 pub mod GoodEvents
 pub mod GoodPlans
 pub mod ObjectLemmas
+pub mod HeadsAgain
 pub mod PathsAgain
 pub mod PlanLemmas
 pub mod ScansAgain
