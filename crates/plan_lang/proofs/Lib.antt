@@ -9,6 +9,8 @@ pub mod GoodPlans
 pub mod ObjectLemmas
 pub mod HeadsAgain
 pub mod PathsAgain
+pub mod PiecesAgain
 pub mod PlanLemmas
+pub mod PlansAgain
 pub mod ScansAgain
 pub mod TokensAgain
