@@ -13,4 +13,5 @@ pub mod PiecesAgain
 pub mod PlanLemmas
 pub mod PlansAgain
 pub mod ScansAgain
+pub mod TextsRead
 pub mod TokensAgain
