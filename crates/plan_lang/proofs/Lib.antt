@@ -13,5 +13,6 @@ pub mod PiecesAgain
 pub mod PlanLemmas
 pub mod PlansAgain
 pub mod ScansAgain
+pub mod TextsDrafted
 pub mod TextsRead
 pub mod TokensAgain

@@ -196,13 +196,13 @@ name_texts T (t.Op n ∷ ts) found h e = absurd (cc)
 name_texts T (t.Minus n ∷ ts) found h e = absurd (cc)
 name_texts T (t.Mark n ∷ ts) found h e = absurd (cc)
 
-abbrev SecondTexts : (List ℕ → Type 0) → List ℕ × Expr → Type 0
+abbrev pub SecondTexts : (List ℕ → Type 0) → List ℕ × Expr → Type 0
 SecondTexts T p = ExprTexts T p.1
 
-abbrev PairTexts : (List ℕ → Type 0) → Expr × Expr → Type 0
+abbrev pub PairTexts : (List ℕ → Type 0) → Expr × Expr → Type 0
 PairTexts T p = ExprTexts T p.0 × ExprTexts T p.1
 
-second_of : (T : List ℕ → Type 0) (name : Rated (List ℕ)) (x : Rated Expr) → GoodRated (ExprTexts T) x → GoodRated (SecondTexts T) (both name x)
+pub second_of : (T : List ℕ → Type 0) (name : Rated (List ℕ)) (x : Rated Expr) → GoodRated (ExprTexts T) x → GoodRated (SecondTexts T) (both name x)
 second_of T (r.Fine a) (r.Fine x) h = h
 second_of T (r.Fine a) r.Wide h = tt
 second_of T (r.Fine a) r.Deep h = tt
@@ -211,7 +211,7 @@ second_of T r.Deep (r.Fine x) h = tt
 second_of T r.Deep r.Wide h = tt
 second_of T r.Deep r.Deep h = tt
 
-named_texts : (T : List ℕ → Type 0) → Reads T (SecondTexts T) named_at
+pub named_texts : (T : List ℕ → Type 0) → Reads T (SecondTexts T) named_at
 named_texts T ts found h e =
     let a = bind_some (name_at ts) (λ name. need m.Assign name.1 >>= λ rest. expr_at rest >>= λ x. Some (both name.0 x.0, x.1)) found e in
     let n = name_texts T ts a.0 h a.1 in
@@ -221,7 +221,7 @@ named_texts T ts found h e =
     let x = expr_texts T b.0 c.0 q c.1 in
     along T (SecondTexts T) (both a.0.0 c.0.0, c.0.1) found c.2 (second_of T a.0.0 c.0.0 x.0, x.1)
 
-pair_texts : (T : List ℕ → Type 0) → Reads T (PairTexts T) pair_at
+pub pair_texts : (T : List ℕ → Type 0) → Reads T (PairTexts T) pair_at
 pair_texts T ts found h e =
     let a = bind_some (expr_at ts) (λ x. need m.Assign x.1 >>= λ rest. expr_at rest >>= λ y. Some (both x.0 y.0, y.1)) found e in
     let n = expr_texts T ts a.0 h a.1 in
@@ -274,7 +274,7 @@ few_by : {A : Type 0} (P : A → Type 0) (xs : Rated (List A)) (b : Bool) → Go
 few_by P xs true g = g
 few_by P xs false g = tt
 
-few_texts : {A : Type 0} (P : A → Type 0) (x : Several A) → GoodRated (AllOf P) x.items → GoodRated (AllOf P) (few x)
+pub few_texts : {A : Type 0} (P : A → Type 0) (x : Several A) → GoodRated (AllOf P) x.items → GoodRated (AllOf P) (few x)
 few_texts P x g = few_by P x.items (leb x.count 8) g
 
 close_by : {A : Type 0} (T : List ℕ → Type 0) (P : A → Type 0) (p found : Several A × List Token) (o : Option (List Token)) → need m.Close p.1 ≡ o → SeveralHold T P p → option_map (λ ts. (p.0, ts)) o ≡ Some found → SeveralHold T P found
