@@ -14,5 +14,6 @@ pub mod PlanLemmas
 pub mod PlansAgain
 pub mod ScansAgain
 pub mod TextsDrafted
+pub mod TextsLexed
 pub mod TextsRead
 pub mod TokensAgain

@@ -129,7 +129,7 @@ FrontUtf8 : List ℕ → List (List ℕ) → Type 0
 FrontUtf8 w [] = Unit {0}
 FrontUtf8 w (line ∷ lines) = IsUtf8 (w ++ line) × AllOf IsUtf8 lines
 
-take_front : (a b : List ℕ) → take (length a) (a ++ b) ≡ a
+pub take_front : (a b : List ℕ) → take (length a) (a ++ b) ≡ a
 take_front [] b = refl
 take_front (c ∷ cs) b = ap (λ l. c ∷ l) (take_front cs b)
 
