@@ -14,6 +14,8 @@ pub mod PlanLemmas
 pub mod PlansAgain
 pub mod ScansAgain
 pub mod TextsDrafted
+pub mod TextsHeard
 pub mod TextsLexed
+pub mod TextsPlanned
 pub mod TextsRead
 pub mod TokensAgain
