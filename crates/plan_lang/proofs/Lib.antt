@@ -17,5 +17,6 @@ pub mod TextsDrafted
 pub mod TextsHeard
 pub mod TextsLexed
 pub mod TextsPlanned
+pub mod TextsPrinted
 pub mod TextsRead
 pub mod TokensAgain

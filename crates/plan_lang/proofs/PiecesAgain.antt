@@ -144,13 +144,13 @@ pub path_plain : (ns : List ℕ) → plain (path_text ns) ≡ true
 path_plain [] = refl
 path_plain (n ∷ ns) = plain_append (decimal n) (dotted ns) (plain_decimal n) (dotted_plain ns)
 
-mode_plain : (m : Mode) → plain (mode_text m) ≡ true
+pub mode_plain : (m : Mode) → plain (mode_text m) ≡ true
 mode_plain mode.R = refl
 mode_plain mode.W = refl
 mode_plain mode.T = refl
 
 -- a plain front, and what follows it
-front : {P T : List ℕ → Type 0} → Printable P T → (a b : List ℕ) → plain a ≡ true → P b → P (a ++ b)
+pub front : {P T : List ℕ → Type 0} → Printable P T → (a b : List ℕ) → plain a ≡ true → P b → P (a ++ b)
 front p a b h k = p.join a b (p.plain_piece a h) k
 
 two_plain : (a b : List ℕ) → plain a ≡ true → plain b ≡ true → plain (a ++ (32 ∷ b)) ≡ true
@@ -169,7 +169,7 @@ triple_plain p word n m o h =
     (two_plain (decimal n) (decimal m ++ (32 ∷ decimal o)) (plain_decimal n) (two_plain (decimal m) (decimal o) (plain_decimal m) (plain_decimal o))))
 
 -- a number with its space, and what follows it
-numbered : {P T : List ℕ → Type 0} → Printable P T → (n : ℕ) (b : List ℕ) → P b → P (decimal n ++ (codes " " ++ b))
+pub numbered : {P T : List ℕ → Type 0} → Printable P T → (n : ℕ) (b : List ℕ) → P b → P (decimal n ++ (codes " " ++ b))
 numbered p n b h = front p (decimal n) (codes " " ++ b) (plain_decimal n) (front p (codes " ") b refl h)
 
 tagged : {P T : List ℕ → Type 0} → Printable P T → (tags : List Tag) (text : List ℕ) → T text → P (tags_text tags ++ (codes " " ++ quoted text))

@@ -2,7 +2,6 @@
 use Rattle.std.proofs.Common.{◌≡◌, ℕ, zero, suc, ◌+◌, ◌*◌, ◌<◌, ◌≤◌, ◌^◌, Bool, true, false, cond, List, [], ◌∷◌, ◌++◌, length, map, get_or, Option, Some, None, Result, Ok, Err, refl, sym, ap, ◌∙◌, subst, append_assoc, length-append, arith}
 use Rattle.std.specs.Prelude.{◌&&◌, option_and_then, IfOk, bytes_eq, codes, nat_le, nat_lt, flat_map}
 use Rattle.std.specs.List.{list_all}
-use Rattle.std.specs.Str.{IsUtf8}
 use Rattle.std.specs.Fmt.{decimal}
 use Rattle.std.proofs.lemmas.Bool.Decides.{nat_tests}
 use Rattle.std.proofs.lemmas.List.{append-nil}
@@ -54,6 +53,8 @@ use Rattle.plan_lang.proofs.HeadsAgain.{headed, events_close, head_again, not_en
 use Rattle.plan_lang.proofs.PiecesAgain.{event_feed, plain_decimal, plain_feed}
 use Rattle.plan_lang.proofs.PlanLemmas.{plan_short}
 use Rattle.plan_lang.proofs.ScansAgain.{plain_scan, piece_then, tokens_read, Widens, widened, within_limits}
+use Rattle.plan_lang.proofs.TextsPlanned.{plan_texts}
+use Rattle.plan_lang.proofs.TextsPrinted.{plan_utf8}
 use Rattle.plan_lang.proofs.TokensAgain.{Cuts, whole, number_piece, behind_word}
 
 -- The tokens of an event's line.
@@ -331,9 +332,9 @@ plan_apart plan = sym (append_assoc (head_text plan) (codes "events\n") (flat_ma
 few_weights : (n : ℕ) → nat_le n 200000 ≡ true → 0 + n ≤ 200000
 few_weights n h = let u : n ≤ 200000 = grind (arith, nat_tests, h) in omega arith
 
-pub plan_again : (text : List ℕ) (plan : Plan) → plan_of text ≡ Ok plan → IsUtf8 (plan_text plan) → length (plan_text plan) ≤ 1048576 → length (lines_in (plan_text plan)).0 ≤ 65536 → plan_of (plan_text plan) ≡ Ok plan
+pub plan_again : (text : List ℕ) (plan : Plan) → plan_of text ≡ Ok plan → length (plan_text plan) ≤ 1048576 → length (lines_in (plan_text plan)).0 ≤ 65536 → plan_of (plan_text plan) ≡ Ok plan
 unfolding with_head_alone behind_head
-plan_again text plan e u short few =
+plan_again text plan e short few =
     let o = origin text plan e in
     let fs = plan.program.functions in
     let a = split_true _ (nat_le (weights plan.items) 200000) (read_plan text plan e) in
@@ -342,6 +343,7 @@ plan_again text plan e u short few =
     let d = split_true (is_setup plan.setup) (are_objects plan.objects) c.0 in
     let p = split_true (nat_le (length fs) 256 && distinct (names fs)) (list_all (is_function fs) fs) c.1 in
     let s : Heads plan.setup fs = record { setup_is = d.0; program = c.1; names_are = identifiers fs fs p.1 } in
+    let u = plan_utf8 plan o.good s.names_are (plan_texts text plan e) in
     let objects = (split_true (distinct (map (λ z. z.0) plan.objects)) (list_all object_test plan.objects) d.1).1 in
     let h = head_again (codes "events") 1 plan events_close d.0 objects o.good o.few in
     let whole_head = headed plan.setup plan.objects h.lines due.Rest (record { functions = fs; marks = h.marks; stage = Between }) in
