@@ -404,7 +404,7 @@ named_by fs f h =
     let d = split_true _ _ c.0 in
     (split_true (is_identifier f.name) (few f.params) d.0).0
 
-identifiers : (fs gs : List Function) → list_all (is_function fs) gs ≡ true → list_all is_identifier (names gs) ≡ true
+pub identifiers : (fs gs : List Function) → list_all (is_function fs) gs ≡ true → list_all is_identifier (names gs) ≡ true
 identifiers fs [] h = refl
 identifiers fs (g ∷ gs) h =
     let q = split_true (is_function fs g) (list_all (is_function fs) gs) h in

@@ -7,6 +7,16 @@ pub mod GoodFields
 pub mod GoodEvents
 pub mod GoodPlans
 pub mod ObjectLemmas
+pub mod HeadsAgain
 pub mod PathsAgain
+pub mod PiecesAgain
 pub mod PlanLemmas
+pub mod PlansAgain
+pub mod ScansAgain
+pub mod TextsDrafted
+pub mod TextsHeard
+pub mod TextsLexed
+pub mod TextsPlanned
+pub mod TextsPrinted
+pub mod TextsRead
 pub mod TokensAgain

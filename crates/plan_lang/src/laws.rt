@@ -1,6 +1,6 @@
 //! What holds of the texts of plans.
 
-ghost use Rattle.std.specs.Prelude.{◌≡◌, ℕ, List, Some, None, Ok, option_and_then, true};
+ghost use Rattle.std.specs.Prelude.{◌≡◌, ◌≤◌, ℕ, List, length, Some, None, Ok, option_and_then, true};
 ghost use Rattle.boki_types.specs.declared.event.Event.{Event};
 ghost use Rattle.boki_types.specs.declared.plan.Plan.{Plan};
 ghost use Rattle.boki_types.specs.declared.plan.Setup.{Setup};
@@ -8,10 +8,11 @@ ghost use Rattle.boki_types.specs.declared.program.Function.{Function};
 ghost use Rattle.boki_model.specs.Plans.{is_setup, is_program, is_event, is_plan};
 ghost use Rattle.script_lang.specs.declared.rated.Rated.TheVariants.{Fine};
 ghost use Rattle.script_lang.specs.declared.token.Token.{Token};
+ghost use Rattle.script_lang.specs.Lines.{lines_in};
 ghost use Rattle.script_lang.specs.Tokens.{tokens_in};
 ghost use Rattle.plan_lang.specs.declared.events.Entry.{Entry};
 ghost use Rattle.plan_lang.specs.Events.{entry_of};
-ghost use Rattle.plan_lang.specs.Printed.{event_text};
+ghost use Rattle.plan_lang.specs.Printed.{event_text, plan_text};
 ghost use Rattle.plan_lang.specs.Texts.{plan_of};
 
 /// An event that is read below a setup and functions, and whose call has no fault, is one that a plan with these can have.
@@ -27,4 +28,9 @@ pub fn read_plan_is_one()
 /// The printed line of an event that a plan with this setup and these functions can have is read again as this event.
 pub fn printed_event_is_read_again()
     ensures { (setup : Setup) (fs : List Function) (x : Event) → is_setup setup ≡ true → is_program (record { functions = fs }) ≡ true → is_event setup fs x ≡ true → option_and_then (entry_of setup fs) (tokens_in (event_text fs x)) ≡ Some (Fine (record { event = x; fault = None })) }
+{}
+
+/// The canonical text of a plan that a text spells is read again as this plan, where it is within the limits of a text.
+pub fn printed_plan_is_read_again()
+    ensures { (text : List ℕ) (plan : Plan) → plan_of text ≡ Ok plan → length (plan_text plan) ≤ 1048576 → length (lines_in (plan_text plan)).0 ≤ 65536 → plan_of (plan_text plan) ≡ Ok plan }
 {}

@@ -38,10 +38,10 @@ below m n h = grind (arith, nat_tests, h)
 good_expr : (x : Expr) → GoodExpr x → is_good_expr x ≡ true
 good_expr x h = both_true _ _ (both_true _ _ (below (operands x) 64 h.few) (below (nesting x) 32 h.low)) h.fine
 
-inner : {A : Type 0} (x y : A) → Some x ≡ Some y → x ≡ y
+pub inner : {A : Type 0} (x y : A) → Some x ≡ Some y → x ≡ y
 inner x y e = cc
 
-bind_some : {A B : Type 0} (o : Option A) (f : A → Option B) (y : B) → (o >>= f) ≡ Some y → (x : A) × (o ≡ Some x) × (f x ≡ Some y)
+pub bind_some : {A B : Type 0} (o : Option A) (f : A → Option B) (y : B) → (o >>= f) ≡ Some y → (x : A) × (o ≡ Some x) × (f x ≡ Some y)
 bind_some None f y e = absurd (cc)
 bind_some (Some x) f y e = (x, refl, e)
 
@@ -103,7 +103,7 @@ name_good (tokens.Op n ∷ ts) found g e = absurd (cc)
 name_good (tokens.Minus n ∷ ts) found g e = absurd (cc)
 name_good (tokens.Mark n ∷ ts) found g e = absurd (cc)
 
-both_good : {A B : Type 0} (P : A → Type 0) (Q : B → Type 0) (a : Rated A) (b : Rated B) → GoodRated P a → GoodRated Q b → GoodRated (λ p. P p.0 × Q p.1) (both a b)
+pub both_good : {A B : Type 0} (P : A → Type 0) (Q : B → Type 0) (a : Rated A) (b : Rated B) → GoodRated P a → GoodRated Q b → GoodRated (λ p. P p.0 × Q p.1) (both a b)
 both_good P Q (rates.Fine a) (rates.Fine b) g h = (g, h)
 both_good P Q (rates.Fine a) rates.Wide g h = tt
 both_good P Q (rates.Fine a) rates.Deep g h = tt
@@ -112,7 +112,7 @@ both_good P Q rates.Deep (rates.Fine b) g h = tt
 both_good P Q rates.Deep rates.Wide g h = tt
 both_good P Q rates.Deep rates.Deep g h = tt
 
-map_good : {A B : Type 0} (P : A → Type 0) (Q : B → Type 0) (f : A → B) (a : Rated A) → ((x : A) → P x → Q (f x)) → GoodRated P a → GoodRated Q (map_rated f a)
+pub map_good : {A B : Type 0} (P : A → Type 0) (Q : B → Type 0) (f : A → B) (a : Rated A) → ((x : A) → P x → Q (f x)) → GoodRated P a → GoodRated Q (map_rated f a)
 map_good P Q f (rates.Fine a) h g = h a g
 map_good P Q f rates.Wide h g = tt
 map_good P Q f rates.Deep h g = tt
@@ -240,7 +240,7 @@ alone_is : {A : Type 0} (ts : List Token) (x r : Rated A) → alone ts x ≡ Som
 alone_is [] x r e = inner x r e
 alone_is (t ∷ ts) x r e = absurd (cc)
 
-alone_good : {A : Type 0} (P : A → Type 0) (ts : List Token) (x r : Rated A) → alone ts x ≡ Some r → GoodRated P x → GoodRated P r
+pub alone_good : {A : Type 0} (P : A → Type 0) (ts : List Token) (x r : Rated A) → alone ts x ≡ Some r → GoodRated P x → GoodRated P r
 alone_good {A} P ts x r e g = let Q : Rated A → Type 0 = λ z. GoodRated P z in subst Q (alone_is ts x r e) g
 
 -- The head of a function.
