@@ -10,3 +10,4 @@ pub mod ObjectLemmas
 pub mod PathsAgain
 pub mod PlanLemmas
 pub mod TokensAgain
+pub mod TurnsAgain

@@ -5,14 +5,18 @@ ghost use Rattle.boki_types.specs.declared.event.Event.{Event};
 ghost use Rattle.boki_types.specs.declared.plan.Plan.{Plan};
 ghost use Rattle.boki_types.specs.declared.plan.Setup.{Setup};
 ghost use Rattle.boki_types.specs.declared.program.Function.{Function};
+ghost use Rattle.boki_types.specs.declared.turn.Turn.{Turn};
 ghost use Rattle.boki_model.specs.Plans.{is_setup, is_program, is_event, is_plan};
 ghost use Rattle.script_lang.specs.declared.rated.Rated.TheVariants.{Fine};
 ghost use Rattle.script_lang.specs.declared.token.Token.{Token};
 ghost use Rattle.script_lang.specs.Tokens.{tokens_in};
 ghost use Rattle.plan_lang.specs.declared.events.Entry.{Entry};
+ghost use Rattle.plan_lang.specs.declared.turns.TurnEntry.{TurnEntry};
 ghost use Rattle.plan_lang.specs.Events.{entry_of};
-ghost use Rattle.plan_lang.specs.Printed.{event_text};
+ghost use Rattle.plan_lang.specs.Printed.{event_text, turn_text};
 ghost use Rattle.plan_lang.specs.Texts.{plan_of};
+ghost use Rattle.plan_lang.specs.TurnTexts.{is_turn};
+ghost use Rattle.plan_lang.specs.Turns.{turn_of};
 
 /// An event that is read below a setup and functions, and whose call has no fault, is one that a plan with these can have.
 pub fn read_event_is_one()
@@ -27,4 +31,14 @@ pub fn read_plan_is_one()
 /// The printed line of an event that a plan with this setup and these functions can have is read again as this event.
 pub fn printed_event_is_read_again()
     ensures { (setup : Setup) (fs : List Function) (x : Event) → is_setup setup ≡ true → is_program (record { functions = fs }) ≡ true → is_event setup fs x ≡ true → option_and_then (entry_of setup fs) (tokens_in (event_text fs x)) ≡ Some (Fine (record { event = x; fault = None })) }
+{}
+
+/// The printed line of a turn that a text with these functions can have is read again as this turn.
+pub fn printed_turn_is_read_again()
+    ensures { (fs : List Function) (x : Turn) → is_program (record { functions = fs }) ≡ true → is_turn fs x ≡ true → option_and_then (turn_of fs) (tokens_in (turn_text fs x)) ≡ Some (Fine (record { turn = x; fault = None })) }
+{}
+
+/// A turn that is read below functions, and whose call has no fault, is one that a text with these functions can have.
+pub fn read_turn_is_one()
+    ensures { (fs : List Function) (ts : List Token) (x : TurnEntry) → turn_of fs ts ≡ Some (Fine x) → x.fault ≡ None → is_turn fs x.turn ≡ true }
 {}
