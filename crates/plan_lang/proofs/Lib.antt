@@ -11,3 +11,5 @@ pub mod PathsAgain
 pub mod PlanLemmas
 pub mod TokensAgain
 pub mod TurnsAgain
+pub mod Utf8Tokens
+pub mod CleanTurns
