@@ -13,3 +13,4 @@ pub mod TokensAgain
 pub mod TurnsAgain
 pub mod Utf8Tokens
 pub mod CleanTurns
+pub mod TurnLines
