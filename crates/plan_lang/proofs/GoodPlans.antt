@@ -84,7 +84,7 @@ passed_by before o os ns i true found none e h d rest = absurd (cc)
 passed_by before o os ns i false found none e h d rest =
     ap distinct (sym (append_assoc before (o.0 ∷ []) (map (λ p. p.0) os))) ∙ rest (distinct_more before o.0 d e) h
 
-passed : (before : List (List ℕ)) (objects : List (List ℕ × Value)) (ns : List ℕ) (i : ℕ) (found : Option (ℕ × Kind)) → found ≡ None → objects_fault before objects ns i ≡ found → distinct before ≡ true → distinct (before ++ map (λ p. p.0) objects) ≡ true
+pub passed : (before : List (List ℕ)) (objects : List (List ℕ × Value)) (ns : List ℕ) (i : ℕ) (found : Option (ℕ × Kind)) → found ≡ None → objects_fault before objects ns i ≡ found → distinct before ≡ true → distinct (before ++ map (λ p. p.0) objects) ≡ true
 passed before [] ns i found none h d = ap distinct (append-nil before) ∙ d
 passed before (o ∷ os) ns i found none h d =
     passed_by before o os ns i (is_among before o.0) found none refl h d (λ d2 h2. passed (before ++ o.0 ∷ []) os ns (i + 1) found none h2 d2)
@@ -101,7 +101,7 @@ pub record GoodHead (h : Head) : Type 0 where
 abbrev HeadOk : Result Head Kind → Type 0
 HeadOk o = IfOk o GoodHead
 
-all_more : {A : Type 0} (p : A → Bool) (xs : List A) (x : A) → list_all p xs ≡ true → p x ≡ true → list_all p (xs ++ x ∷ []) ≡ true
+pub all_more : {A : Type 0} (p : A → Bool) (xs : List A) (x : A) → list_all p xs ≡ true → p x ≡ true → list_all p (xs ++ x ∷ []) ≡ true
 all_more p [] x h e = both_true (p x) true e refl
 all_more p (y ∷ ys) x h e =
     let s = split_true (p y) (list_all p ys) h in both_true (p y) (list_all p (ys ++ x ∷ [])) s.0 (all_more p ys x s.1 e)
@@ -291,7 +291,7 @@ closed_body setup fs b (Some block) [] g h = closed_list setup fs b block block.
 closed_body setup fs b (Some block) (t ∷ ts) g h = tt
 closed_body setup fs b None ts g h = tt
 
-none_first : (fault : Option (ℕ × Kind)) (n : ℕ) (found : Option Kind) → first_fault fault n found ≡ None → (fault ≡ None) × (found ≡ None)
+pub none_first : (fault : Option (ℕ × Kind)) (n : ℕ) (found : Option Kind) → first_fault fault n found ≡ None → (fault ≡ None) × (found ≡ None)
 none_first (Some f) n found e = absurd (cc)
 none_first None n None e = (refl, refl)
 none_first None n (Some k) e = absurd (cc)
@@ -398,12 +398,12 @@ lines_good most n (line ∷ ls) rest d g =
     goes_good (lines_from plan_line most (n + 1) ls rest) n (whole_line plan_line most n line d) (whole_by n line d (nat_lt most n) g) (λ next h. lines_good most (n + 1) ls rest next h)
 
 -- the end
-few_functions : (n : ℕ) (s : Stage) → GoodStage n s → n ≤ 256
+pub few_functions : (n : ℕ) (s : Stage) → GoodStage n s → n ≤ 256
 unfolding GoodStage
 few_functions n Between h = h
 few_functions n (Inside f m bs) h = omega (arith, h.0)
 
-none_or : (a b : Option (ℕ × Kind)) → or_else a b ≡ None → (a ≡ None) × (b ≡ None)
+pub none_or : (a b : Option (ℕ × Kind)) → or_else a b ≡ None → (a ≡ None) × (b ≡ None)
 none_or (Some f) b e = absurd (cc)
 none_or None b e = (refl, e)
 

@@ -9,8 +9,11 @@ pub mod GoodPlans
 pub mod ObjectLemmas
 pub mod PathsAgain
 pub mod PlanLemmas
+pub mod ScansAgain
 pub mod TokensAgain
 pub mod TurnsAgain
 pub mod Utf8Tokens
 pub mod CleanTurns
 pub mod TurnLines
+pub mod TurnScans
+pub mod TurnTextsAgain

@@ -54,10 +54,13 @@ one_ascii c (suc i) h = omega arith
 low_code : (c : ℕ) → nat_lt c 128 ≡ true → c < 128
 low_code c h = grind (arith, nat_tests, h)
 
+pub one_utf8 : (c : ℕ) → c < 128 → IsUtf8 (c ∷ [])
+one_utf8 c h = IsUtf8-from_ascii (c ∷ []) (λ i. one_ascii c i h)
+
 one_plain : (c : ℕ) → (nat_lt c 128 && not (eqb c 10)) ≡ true → Inline (c ∷ [])
 one_plain c h =
     let s = split_true (nat_lt c 128) (not (eqb c 10)) h in
-    record { utf8 = IsUtf8-from_ascii (c ∷ []) (λ i. one_ascii c i (low_code c s.0)); feed = both_true (not (eqb c 10)) true s.1 refl }
+    record { utf8 = one_utf8 c (low_code c s.0); feed = both_true (not (eqb c 10)) true s.1 refl }
 
 pub plain : (w : List ℕ) → is_plain w ≡ true → Inline w
 plain [] h = record { utf8 = IsUtf8-nil; feed = refl }

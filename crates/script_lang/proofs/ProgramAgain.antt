@@ -41,7 +41,7 @@ feed_more : {A : Type 0} (print : A → List ℕ) (xs : List A) → AllOf (λ x.
 feed_more print [] g = refl
 feed_more print (x ∷ xs) g = feed_append (print x) (behind_comma print xs) g.0 (feed_more print xs g.1)
 
-feed_listed : {A : Type 0} (print : A → List ℕ) (xs : List A) → AllOf (λ x. no_feed (print x) ≡ true) xs → no_feed (listed print xs) ≡ true
+pub feed_listed : {A : Type 0} (print : A → List ℕ) (xs : List A) → AllOf (λ x. no_feed (print x) ≡ true) xs → no_feed (listed print xs) ≡ true
 feed_listed print [] g = refl
 feed_listed print (x ∷ xs) g = feed_append (print x) (behind_comma print xs) g.0 (feed_more print xs g.1)
 
@@ -106,7 +106,7 @@ not_true : (b : Bool) → not b ≡ true → b ≡ false
 not_true true e = absurd (cc)
 not_true false e = refl
 
-first_line_is : (a b : List ℕ) → no_feed a ≡ true → lines_in (a ++ 10 ∷ b) ≡ (a ∷ (lines_in b).0, (lines_in b).1)
+pub first_line_is : (a b : List ℕ) → no_feed a ≡ true → lines_in (a ++ 10 ∷ b) ≡ (a ∷ (lines_in b).0, (lines_in b).1)
 first_line_is [] b h = refl
 first_line_is (c ∷ cs) b h =
     let k = split_and (not (eqb c 10)) (no_feed cs) h in
@@ -178,7 +178,7 @@ stands (false ∷ bs) stmts.End rest h = record { next = bs; place = refl; close
 stands (false ∷ bs) (stmts.Return a) rest h = record { next = (false ∷ bs); place = refl; closed = h }
 stands (false ∷ bs) (stmts.ReadAll ps) rest h = record { next = (false ∷ bs); place = refl; closed = h }
 
-draft : List Function → List (List ℕ) → Stage → Draft
+unfoldable pub draft : List Function → List (List ℕ) → Stage → Draft
 draft fs ms s = record { functions = fs; marks = ms; stage = s }
 
 put_lines : Function → List Stmt → Function
@@ -199,10 +199,10 @@ take_end n fs ms f m =
     ∙ ap (lined n fs ms f m []) (stmt_again stmts.End g)
 
 -- Reading on gives these functions, wherever the lines stand.
-record Leads (n : ℕ) (text : List ℕ) (d : Draft) (rest : List ℕ) (fs : List Function) : Type 0 where
-  line : ℕ
-  marks : List (List ℕ)
-  same : scan n text d ≡ scan line rest (draft fs marks Between)
+pub record Leads (n : ℕ) (text : List ℕ) (d : Draft) (rest : List ℕ) (fs : List Function) : Type 0 where
+  pub line : ℕ
+  pub marks : List (List ℕ)
+  pub same : scan n text d ≡ scan line rest (draft fs marks Between)
 
 nil_of : (bs : List Bool) → is_balanced bs [] ≡ true → bs ≡ []
 nil_of [] e = refl
@@ -287,7 +287,7 @@ scan_function f n fs ms rest g l =
           ∙ r.same;
     }
 
-scan_all : (gs : List Function) (n : ℕ) (fs : List Function) (ms : List (List ℕ)) → AllOf GoodFunction gs → length fs + length gs ≤ 256 → Leads n (flat_map function_text gs) (draft fs ms Between) [] (fs ++ gs)
+pub scan_all : (gs : List Function) (n : ℕ) (fs : List Function) (ms : List (List ℕ)) → AllOf GoodFunction gs → length fs + length gs ≤ 256 → Leads n (flat_map function_text gs) (draft fs ms Between) [] (fs ++ gs)
 scan_all [] n fs ms g l = record {
   line = n;
   marks = ms;
@@ -329,7 +329,7 @@ function_free fs before f ns os e =
     let h = none_of (get_or ns 0 0) (head_fault before f) (lines_fault fs f.params f.lines ns 1) e in
     both_none (get_or os 0 0) (head_fault before f) (lines_fault fs f.params f.lines os 1) h.0 (lines_free fs f.params f.lines ns os 1 1 h.1)
 
-functions_free : (fs gs : List Function) (ms ks : List (List ℕ)) (i : ℕ) → functions_fault fs gs ms i ≡ None → functions_fault fs gs ks i ≡ None
+pub functions_free : (fs gs : List Function) (ms ks : List (List ℕ)) (i : ℕ) → functions_fault fs gs ms i ≡ None → functions_fault fs gs ks i ≡ None
 functions_free fs [] ms ks i e = refl
 functions_free fs (g ∷ gs) ms ks i e =
     let h = or_none (function_fault fs (take i fs) g (get_or ms i [])) (functions_fault fs gs ms (i + 1)) e in

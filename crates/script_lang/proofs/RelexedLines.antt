@@ -262,7 +262,7 @@ feed_escaped : (w : List ℕ) → no_feed (escaped w) ≡ true
 feed_escaped [] = refl
 feed_escaped (c ∷ cs) = feed_append (escape c) (escaped cs) (feed_escape c (eqb c 34 || eqb c 92) (eqb c 10) refl refl) (feed_escaped cs)
 
-feed_quoted : (w : List ℕ) → no_feed (quoted w) ≡ true
+pub feed_quoted : (w : List ℕ) → no_feed (quoted w) ≡ true
 feed_quoted w = feed_append (escaped w) (34 ∷ []) (feed_escaped w) refl
 
 numeral_digits : (w : List ℕ) → is_numeral w ≡ true → all_ascii_digits w ≡ true
@@ -272,12 +272,12 @@ from_num : (w : List ℕ) (n : ℕ) (b : Bool) → (is_numeral w && ltb (digits_
 from_num w n true e h = (split_and _ _ e).0
 from_num w n false e h = absurd (cc)
 
-feed_decimal : (n : ℕ) → n < 2 ^ 64 → no_feed (decimal n) ≡ true
+pub feed_decimal : (n : ℕ) → n < 2 ^ 64 → no_feed (decimal n) ≡ true
 feed_decimal n l =
     let w = decimal n in
     feed_digits w (numeral_digits w (from_num w n (is_numeral w && ltb (digits_value 10 w) (2 ^ 64)) refl (numeral-reads_back n l)))
 
-feed_int : (z : ℤ) → fits z ≡ true → no_feed (signed_decimal z) ≡ true
+pub feed_int : (z : ℤ) → fits z ≡ true → no_feed (signed_decimal z) ≡ true
 feed_int (pos n) f = let h : ltb n (2 ^ 63) ≡ true = f in feed_decimal n (grind (arith, nat_tests, h))
 feed_int (negsuc n) f = feed_decimal (suc n) (grind (arith, nat_tests, ints, f))
 
