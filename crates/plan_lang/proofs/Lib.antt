@@ -13,6 +13,7 @@ pub mod ScansAgain
 pub mod TokensAgain
 pub mod TurnsAgain
 pub mod Utf8Tokens
+pub mod CleanReads
 pub mod CleanTurns
 pub mod TurnLines
 pub mod TurnScans

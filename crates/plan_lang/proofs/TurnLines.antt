@@ -29,7 +29,8 @@ use Rattle.script_lang.proofs.RelexedLines.{no_feed, feed_append, feed_expr}
 use Rattle.plan_lang.specs.Printed.{name_at, call_text, turn_text}
 use Rattle.plan_lang.specs.Turns.{callless, turn_of}
 use Rattle.plan_lang.specs.TurnTexts.{is_turn}
-use Rattle.plan_lang.proofs.CleanTurns.{is_clean_value, are_clean_values, is_clean_turn}
+use Rattle.plan_lang.proofs.CleanReads.{is_clean_value}
+use Rattle.plan_lang.proofs.CleanTurns.{are_clean_values, is_clean_turn}
 use Rattle.plan_lang.proofs.EventsAgain.{low_request, known}
 use Rattle.plan_lang.proofs.GoodFields.{both_true, split_true}
 use Rattle.plan_lang.proofs.PathsAgain.{all_figures, small, low, numeral_is, digits_of, digits_figures, dotted_figures, path_small}
