@@ -15,6 +15,7 @@ pub mod TurnsAgain
 pub mod Utf8Tokens
 pub mod CleanReads
 pub mod CleanTurns
+pub mod CleanStmts
 pub mod TurnLines
 pub mod TurnScans
 pub mod TurnTextsAgain
