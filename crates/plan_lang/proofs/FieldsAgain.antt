@@ -81,7 +81,7 @@ negative_fits n h = grind (arith, nat_tests, ints, h)
 not_zero : (n : ℕ) → eqb (suc n) 0 ≡ false
 not_zero n = grind (arith, nat_tests)
 
-value_back : (x : Value) (rest : List Token) → is_value x ≡ true → value_at (value_tokens x ++ rest) ≡ Some (r.Fine x, rest)
+pub value_back : (x : Value) (rest : List Token) → is_value x ≡ true → value_at (value_tokens x ++ rest) ≡ Some (r.Fine x, rest)
 value_back (v.Int (pos n)) rest h = let g : nat_lt n (2 ^ 63) ≡ true = h in ap (λ b. Some (cond b (r.Fine (v.Int (pos n))) r.Wide, rest)) g
 value_back (v.Int (negsuc n)) rest h =
     ap (λ b. cond b None (Some (negative_value (Some (suc n)), rest))) (not_zero n)

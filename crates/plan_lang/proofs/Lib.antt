@@ -2,6 +2,7 @@ pub mod DotLemmas
 pub mod EventsAgain
 pub mod FewLemmas
 pub mod FieldsAgain
+pub mod HeadsAgain
 pub mod FlatLemmas
 pub mod GoodFields
 pub mod GoodEvents
@@ -19,3 +20,5 @@ pub mod CleanStmts
 pub mod TurnLines
 pub mod TurnScans
 pub mod TurnTextsAgain
+pub mod CleanHeads
+pub mod HeadsUtf8

@@ -104,7 +104,7 @@ value_tokens (v.Int n) = int_tokens n
 value_tokens (v.Text x) = t.Text x ∷ []
 value_tokens v.Nothing = t.Key k.Nothing ∷ []
 
-value_piece : (x : Value) → is_value x ≡ true → Lexes (value_text x) (value_tokens x)
+pub value_piece : (x : Value) → is_value x ≡ true → Lexes (value_text x) (value_tokens x)
 value_piece (v.Int n) h = expr_lexed (e.Int n) 0 h
 value_piece (v.Text x) h = expr_lexed (e.Text x) 0 h
 value_piece v.Nothing h = expr_lexed e.Nothing 0 refl

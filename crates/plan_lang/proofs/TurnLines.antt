@@ -122,7 +122,7 @@ low_positive n f = let h : ltb n (2 ^ 63) ≡ true = f in grind (arith, nat_test
 low_negative : (n : ℕ) → fits (negsuc n) ≡ true → suc n < 2 ^ 64
 low_negative n f = grind (arith, nat_tests, ints, f)
 
-int_inline : (z : ℤ) → fits z ≡ true → Inline (signed_decimal z)
+pub int_inline : (z : ℤ) → fits z ≡ true → Inline (signed_decimal z)
 int_inline (pos n) f = decimal_inline n (low_positive n f)
 int_inline (negsuc n) f = joined (codes "-") (decimal (suc n)) (plain (codes "-") refl) (decimal_inline (suc n) (low_negative n f))
 
