@@ -345,8 +345,8 @@ BodyAt : Bool → Setup → List Function → Body → Type 0
 BodyAt true setup fs b = GoodBody setup fs b
 BodyAt false setup fs b = b ≡ no_body
 
-record GoodPlan (d : PlanDraft) : Type 0 where
-  head : GoodHead d.head
+pub record GoodPlan (d : PlanDraft) : Type 0 where
+  pub head : GoodHead d.head
   body : BodyAt (has_ended d.head.due) d.head.setup d.head.draft.functions d.body
 
 no_body_at : (c : Bool) (setup : Setup) (fs : List Function) (b : Body) → b ≡ no_body → BodyAt c setup fs b
@@ -384,14 +384,14 @@ whole_by : (n : ℕ) (line : List ℕ) (d : PlanDraft) (c : Bool) → GoodPlan d
 whole_by n line d true g = tt
 whole_by n line d false g = text_step n (text_in line) d g
 
-abbrev FoundGood : Result (ℕ × PlanDraft) PlanFault → Type 0
+abbrev pub FoundGood : Result (ℕ × PlanDraft) PlanFault → Type 0
 FoundGood o = IfOk o (λ p. GoodPlan p.1)
 
 goes_good : (others : PlanDraft → Result (ℕ × PlanDraft) PlanFault) (n : ℕ) (o : Result PlanDraft Kind) → IfOk o GoodPlan → ((d : PlanDraft) → GoodPlan d → FoundGood (others d)) → FoundGood (goes_on others n o)
 goes_good others n (Err k) h rest = tt
 goes_good others n (Ok d) h rest = rest d h
 
-lines_good : (most n : ℕ) (ls : List (List ℕ)) (rest : List ℕ) (d : PlanDraft) → GoodPlan d → FoundGood (lines_from plan_line most n ls rest d)
+pub lines_good : (most n : ℕ) (ls : List (List ℕ)) (rest : List ℕ) (d : PlanDraft) → GoodPlan d → FoundGood (lines_from plan_line most n ls rest d)
 lines_good most n [] [] d g = g
 lines_good most n [] (c ∷ cs) d g = tt
 lines_good most n (line ∷ ls) rest d g =
@@ -435,7 +435,7 @@ finished_good : (o : Result (ℕ × PlanDraft) PlanFault) → FoundGood o → Pl
 finished_good (Err f) h = tt
 finished_good (Ok p) h = stopped_good p.0 p.1.head p.1.body (has_ended p.1.head.due) p.1.body.block h.head h.body
 
-no_plan_good : GoodPlan no_plan
+pub no_plan_good : GoodPlan no_plan
 no_plan_good = record { head = no_head_good; body = no_body_at false no_head.setup no_head.draft.functions no_body refl }
 
 plan_in_good : (text : List ℕ) → PlanOk (plan_in text)
