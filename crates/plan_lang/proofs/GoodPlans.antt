@@ -211,13 +211,13 @@ between_good : (close : List ℕ) (n : ℕ) (ts : List Token) (h : Head) (b : Bo
 between_good close n ts h true t g = drafted n ts h t g
 between_good close n ts h false t g = led_good n ts h (lead_of close ts) t g
 
-due_good : (close : List ℕ) (n : ℕ) (ts : List Token) (h : Head) (d : Due) → GoodTokens ts → GoodHead h → HeadOk (due_line close n ts h d)
+pub due_good : (close : List ℕ) (n : ℕ) (ts : List Token) (h : Head) (d : Due) → GoodTokens ts → GoodHead h → HeadOk (due_line close n ts h d)
 due_good close n ts h due.Setup t g = with_setup_good h (setup_of ts) g (setup_good ts)
 due_good close n ts h due.Objects t g = between_good close n ts h (is_inside h.draft.stage) t g
 due_good close n ts h due.Functions t g = between_good close n ts h (is_inside h.draft.stage) t g
 due_good close n ts h due.Rest t g = tt
 
-no_head_good : GoodHead no_head
+pub no_head_good : GoodHead no_head
 no_head_good = record { setup = refl; objects = refl; draft = no_draft_good }
 
 -- Bodies.

@@ -20,12 +20,10 @@ use Rattle.script_lang.specs.Lines.{lines_in, line_of, text_in, spelled}
 use Rattle.script_lang.specs.Names.{name_fault, or_else}
 use Rattle.plan_lang.specs.declared.drafts.TurnDraft.{TurnDraft}
 use Rattle.plan_lang.specs.declared.fault.PlanFault.{PlanFault}
-use Rattle.plan_lang.specs.declared.heads.Due.{Due}
-use Rattle.plan_lang.specs.declared.heads.Due.TheVariants as due
 use Rattle.plan_lang.specs.declared.heads.Head.{Head}
 use Rattle.plan_lang.specs.declared.turns.TurnEntry.{TurnEntry}
 use Rattle.plan_lang.specs.Bodies.{first_fault}
-use Rattle.plan_lang.specs.Heads.{due_line, head_line, has_ended, objects_fault, no_head}
+use Rattle.plan_lang.specs.Heads.{head_line, has_ended, objects_fault, no_head}
 use Rattle.plan_lang.specs.Printed.{turn_text, turn_line as printed_line}
 use Rattle.plan_lang.specs.Texts.{Takes, line_by, spelled_line, read_line, whole_line, goes_on, lines_from, scan, head_fault, plan_made, refuse}
 use Rattle.plan_lang.specs.Turns.{turn_of, with_turn, with_turn_head, turn_text_by, turn_line, no_turns, turns_named, turns_stopped, turns_ended, turns_finished, turns_in, turns_of}
@@ -33,6 +31,7 @@ use Rattle.plan_lang.specs.TurnTexts.{is_turn, lines_of, numbered}
 use Rattle.plan_lang.proofs.CleanTurns.{is_clean_turn, turn_clean}
 use Rattle.plan_lang.proofs.GoodFields.{Fine, Whole, both_true, split_true}
 use Rattle.plan_lang.proofs.GoodPlans.{not_true, all_more, none_first, none_or}
+use Rattle.plan_lang.proofs.HeadsAgain.{not_ended}
 use Rattle.plan_lang.proofs.ScansAgain.{plain_from, plain_scan, piece_then, tokens_read, Widens}
 use Rattle.plan_lang.proofs.TurnLines.{Inline, one_utf8, ReadsBack, turn_begins}
 use Rattle.plan_lang.proofs.TurnsAgain.{sound_turn, sound_is_turn, turn_good}
@@ -95,19 +94,10 @@ pub turns_utf8 : (fs : List Function) (xs : List Turn) → AllPrintable fs xs �
 turns_utf8 fs [] p = IsUtf8-nil
 turns_utf8 fs (x ∷ xs) p = IsUtf8-append (printed_line fs x) (flat_map (printed_line fs) xs) (lines_utf8 fs x p.0) (turns_utf8 fs xs p.1)
 
-ended_refuses : (w : List ℕ) (n : ℕ) (ts : List Token) (h next : Head) (d : Due) → has_ended d ≡ true → due_line w n ts h d ≡ Ok next → ⊥
-ended_refuses w n ts h next due.Setup e k = cc
-ended_refuses w n ts h next due.Objects e k = cc
-ended_refuses w n ts h next due.Functions e k = cc
-ended_refuses w n ts h next due.Rest e k = cc
-
 -- The head's lines are read by a text of turns as they are read alone.
-widens_by : (n : ℕ) (ts : List Token) (h next : Head) (c : Bool) → has_ended h.due ≡ c → head_line (codes "turns") n ts h ≡ Ok next → turn_text_by n ts (drafted h []) c ≡ Ok (drafted next [])
-widens_by n ts h next false e k = ap (with_turn_head (drafted h [])) k
-widens_by n ts h next true e k = absurd (ended_refuses (codes "turns") n ts h next h.due e k)
-
 pub head_widens : Widens (head_line (codes "turns")) turn_line (λ h. drafted h [])
-head_widens n ts h next e = widens_by n ts h next (has_ended h.due) refl e
+head_widens n ts h next e =
+    ap (turn_text_by n ts (drafted h [])) (not_ended (codes "turns") n ts h next h.due e) ∙ ap (with_turn_head (drafted h [])) e
 
 -- What is known of the turns that a text spells, and of its head: what holds at first, and behind each line of the head.
 abbrev pub turn_test : List Function → ℕ × Turn → Bool

@@ -1,11 +1,12 @@
 //! What holds of the texts of plans.
 
-ghost use Rattle.std.specs.Prelude.{◌≡◌, ℕ, List, Some, None, Ok, option_and_then, true};
+ghost use Rattle.std.specs.Prelude.{◌≡◌, ◌≤◌, ℕ, List, length, Some, None, Ok, option_and_then, true};
 ghost use Rattle.boki_types.specs.declared.event.Event.{Event};
 ghost use Rattle.boki_types.specs.declared.plan.Plan.{Plan};
 ghost use Rattle.boki_types.specs.declared.plan.Setup.{Setup};
 ghost use Rattle.boki_types.specs.declared.program.Function.{Function};
 ghost use Rattle.boki_types.specs.declared.turn.Turn.{Turn};
+ghost use Rattle.boki_types.specs.declared.turn.TurnText.{TurnText};
 ghost use Rattle.boki_model.specs.Plans.{is_setup, is_program, is_event, is_plan};
 ghost use Rattle.script_lang.specs.declared.rated.Rated.TheVariants.{Fine};
 ghost use Rattle.script_lang.specs.declared.token.Token.{Token};
@@ -15,8 +16,8 @@ ghost use Rattle.plan_lang.specs.declared.turns.TurnEntry.{TurnEntry};
 ghost use Rattle.plan_lang.specs.Events.{entry_of};
 ghost use Rattle.plan_lang.specs.Printed.{event_text, turn_text};
 ghost use Rattle.plan_lang.specs.Texts.{plan_of};
-ghost use Rattle.plan_lang.specs.TurnTexts.{is_turn};
-ghost use Rattle.plan_lang.specs.Turns.{turn_of};
+ghost use Rattle.plan_lang.specs.TurnTexts.{is_turn, turns_text, lines_of, renumbered};
+ghost use Rattle.plan_lang.specs.Turns.{turn_of, turns_of};
 
 /// An event that is read below a setup and functions, and whose call has no fault, is one that a plan with these can have.
 pub fn read_event_is_one()
@@ -41,4 +42,9 @@ pub fn printed_turn_is_read_again()
 /// A turn that is read below functions, and whose call has no fault, is one that a text with these functions can have.
 pub fn read_turn_is_one()
     ensures { (fs : List Function) (ts : List Token) (x : TurnEntry) → turn_of fs ts ≡ Some (Fine x) → x.fault ≡ None → is_turn fs x.turn ≡ true }
+{}
+
+/// The canonical text of turns that a text spells is read again as these turns, each with the number of its line there, where it is within the limits of a text.
+pub fn printed_turns_are_read_again()
+    ensures { (text : List ℕ) (t : TurnText) → turns_of text ≡ Ok t → length (turns_text t) ≤ 16777216 → lines_of (turns_text t) ≤ 300000 → turns_of (turns_text t) ≡ Ok (renumbered t) }
 {}
