@@ -1,6 +1,6 @@
 -- The texts of a head that is read line by line are spelled in UTF-8.
-use Rattle.std.proofs.Common.{◌≡◌, ℕ, Bool, true, false, cond, List, [], ◌∷◌, ◌++◌, length, drop, Option, Some, None, Result, Ok, Err, refl, subst}
-use Rattle.std.specs.Prelude.{◌&&◌, IfOk, option_and_then, codes, nat_lt}
+use Rattle.std.proofs.Common.{◌≡◌, ℕ, Bool, true, false, cond, List, [], ◌∷◌, length, drop, Option, Some, None, Result, Ok, Err, refl}
+use Rattle.std.specs.Prelude.{◌&&◌, IfOk, option_and_then, nat_lt}
 use Rattle.std.specs.List.{list_all}
 use Rattle.std.specs.Str.{is_utf8}
 use Rattle.lb_base.specs.declared.value.Value.{Value}
@@ -21,7 +21,7 @@ use Rattle.script_lang.specs.declared.rated.Rated.TheVariants as r
 use Rattle.script_lang.specs.declared.token.Token.{Token}
 use Rattle.script_lang.specs.declared.token.Token.TheVariants as t
 use Rattle.script_lang.specs.Functions.{placing, begun, new_function, placed, lined, stage_line, draft_line, is_inside}
-use Rattle.script_lang.specs.Statements.{both, fine_if, alone, head_of, stmt_of, text_at, value_at}
+use Rattle.script_lang.specs.Statements.{both, fine_if, alone, head_of, stmt_of, value_at}
 use Rattle.plan_lang.specs.declared.heads.Due.{Due}
 use Rattle.plan_lang.specs.declared.heads.Due.TheVariants as due
 use Rattle.plan_lang.specs.declared.heads.Head.{Head}
@@ -30,7 +30,7 @@ use Rattle.plan_lang.specs.declared.heads.Lead.TheVariants as lead
 use Rattle.plan_lang.specs.Heads.{setup_of, object_of, with_setup, with_object, with_draft, closed_by as head_closed, object_line, led_line, lead_of, lead_rest, between_line, due_line, head_line, no_head}
 use Rattle.plan_lang.proofs.CleanReads.{is_clean_value, Leaves, value_clean}
 use Rattle.plan_lang.proofs.CleanStmts.{is_clean_stmt, stmt_clean}
-use Rattle.plan_lang.proofs.GoodFields.{Fine, Whole, fine_good, split_true, both_good, alone_good}
+use Rattle.plan_lang.proofs.GoodFields.{Whole, fine_good, split_true, both_good, alone_good}
 use Rattle.plan_lang.proofs.GoodPlans.{all_more}
 use Rattle.plan_lang.proofs.Utf8Tokens.{is_clean, are_clean}
 

@@ -1,6 +1,6 @@
 -- What is read from tokens whose quoted texts are UTF-8: values, and lists with commas between.
 use Rattle.std.proofs.Common.{◌≡◌, ℕ, zero, suc, ◌^◌, Bool, true, false, cond, List, [], ◌∷◌, ◌++◌, length, Option, Some, None, option_map, refl}
-use Rattle.std.specs.Prelude.{◌&&◌, option_and_then, nat_lt, nat_le, pos, neg_ℤ}
+use Rattle.std.specs.Prelude.{option_and_then, nat_lt, nat_le, pos, neg_ℤ}
 use Rattle.std.specs.List.{list_all}
 use Rattle.std.specs.Str.{is_utf8}
 use Rattle.lb_base.specs.declared.value.Value.{Value}
@@ -15,7 +15,7 @@ use Rattle.script_lang.specs.declared.token.Mark.TheVariants as m
 use Rattle.script_lang.specs.declared.token.Token.{Token}
 use Rattle.script_lang.specs.declared.token.Token.TheVariants as t
 use Rattle.script_lang.specs.Expressions.{is_zero}
-use Rattle.script_lang.specs.Statements.{Reader, both, map_rated, fine_if, need, needed, alone, cons, one_more, more_by, many_on, many, several, few, positive_value, negative_value, minus_value, value_at, closed_many, listed_by, listed, name_at, applied}
+use Rattle.script_lang.specs.Statements.{Reader, both, fine_if, need, needed, cons, one_more, more_by, many_on, many, several, few, positive_value, negative_value, minus_value, value_at, closed_many, listed_by, listed, applied}
 use Rattle.script_lang.specs.Stream.{taken, same_mark}
 use Rattle.plan_lang.proofs.GoodFields.{Fine, Whole, fine_good, map_good, both_true, split_true, pair_test, both_good}
 use Rattle.plan_lang.proofs.Utf8Tokens.{is_clean, are_clean}

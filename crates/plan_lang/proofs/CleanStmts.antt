@@ -1,5 +1,5 @@
 -- The texts of expressions and statements that are read from a text are spelled in UTF-8.
-use Rattle.std.proofs.Common.{◌≡◌, ℕ, ◌+◌, ◌^◌, max, Bool, true, false, cond, List, [], ◌∷◌, ◌++◌, length, drop, Option, Some, None, refl, sym, ◌∙◌, subst, pos, neg_ℤ}
+use Rattle.std.proofs.Common.{◌≡◌, ℕ, ◌+◌, ◌^◌, max, Bool, true, false, cond, List, [], ◌∷◌, length, drop, Option, Some, None, refl, sym, ◌∙◌, subst, pos, neg_ℤ}
 use Rattle.std.specs.Prelude.{◌&&◌, option_and_then, bytes_eq, codes, nat_lt, nat_le}
 use Rattle.std.specs.List.{list_all}
 use Rattle.std.specs.Str.{is_utf8}
@@ -29,7 +29,7 @@ use Rattle.script_lang.specs.declared.token.Token.{Token}
 use Rattle.script_lang.specs.declared.token.Token.TheVariants as t
 use Rattle.script_lang.specs.Expressions.{leaf, two, inside, wrap, negated, positive, negative, rated, expr_at}
 use Rattle.script_lang.specs.Grammar.{Spells, number, signed, text, variable, nothing, parens, text_of, len_of, negation, binary}
-use Rattle.script_lang.specs.Statements.{both, map_rated, fine_if, need, needed, alone, several, few, named_at, pair_at, applied, setter_of, setter_by, setter_at, set_value, set_spawn, make_commit, set_commit, set_by, let_of, two_of, one_of, group_of, all_of, keyed, stmt_of}
+use Rattle.script_lang.specs.Statements.{both, map_rated, fine_if, need, needed, alone, several, few, named_at, pair_at, applied, setter_of, setter_by, setter_at, set_value, make_commit, set_commit, set_by, let_of, two_of, one_of, group_of, all_of, keyed, stmt_of}
 use Rattle.script_lang.specs.Stream.{taken, key_first}
 use Rattle.script_lang.proofs.GrammarSpelled.{read_is_spelled}
 use Rattle.plan_lang.proofs.CleanReads.{Leaves, Reads, LeavesMany, Applied, any_fine, bind_clean, clean_front, taken_clean, several_clean, few_clean, applied_clean}

@@ -1,5 +1,5 @@
 -- The values of a turn that is read from a text are spelled in UTF-8.
-use Rattle.std.proofs.Common.{◌≡◌, ℕ, Bool, true, false, cond, List, [], ◌∷◌, Option, Some, None, refl}
+use Rattle.std.proofs.Common.{◌≡◌, ℕ, Bool, true, false, cond, List, ◌∷◌, Option, Some, None, refl}
 use Rattle.std.specs.Prelude.{option_and_then, bytes_eq, codes}
 use Rattle.std.specs.List.{list_all}
 use Rattle.lb_base.specs.declared.value.Value.{Value}

@@ -1,6 +1,6 @@
 -- The printed head of a plan is UTF-8.
-use Rattle.std.proofs.Common.{◌≡◌, ℕ, zero, suc, ◌+◌, ◌<◌, ◌≤◌, ◌^◌, Bool, true, false, cond, leb, ltb, List, [], ◌∷◌, ◌++◌, length, Option, Some, None, refl, subst, arith}
-use Rattle.std.specs.Prelude.{◌&&◌, codes, flat_map, nat_lt, nat_le}
+use Rattle.std.proofs.Common.{◌≡◌, ℕ, zero, suc, ◌+◌, ◌<◌, ◌^◌, Bool, true, false, leb, ltb, List, [], ◌∷◌, ◌++◌, Option, Some, None, refl, arith}
+use Rattle.std.specs.Prelude.{◌&&◌, codes, flat_map}
 use Rattle.std.specs.List.{list_all}
 use Rattle.std.specs.Fmt.{decimal}
 use Rattle.std.specs.Str.{IsUtf8, is_utf8}
@@ -10,7 +10,6 @@ use denote.Hole.Carrier.{hidden}
 use Rattle.lb_base.specs.declared.value.Mode.{Mode}
 use Rattle.lb_base.specs.declared.value.Mode.TheVariants as mode
 use Rattle.lb_base.specs.declared.value.Value.{Value}
-use Rattle.lb_base.specs.declared.value.Value.TheVariants as v
 use Rattle.lb_base.specs.Print.{value_text, mode_text}
 use Rattle.lb_base.specs.Quoted.{quoted}
 use Rattle.boki_types.specs.declared.expr.BinOp.{BinOp}
@@ -35,7 +34,7 @@ use Rattle.plan_lang.specs.Printed.{newer_text, setup_text, valued_line, head_te
 use Rattle.plan_lang.proofs.CleanHeads.{is_clean_function, is_clean_object}
 use Rattle.plan_lang.proofs.CleanReads.{is_clean_value}
 use Rattle.plan_lang.proofs.CleanStmts.{is_clean_expr, is_clean_stmt}
-use Rattle.plan_lang.proofs.GoodFields.{both_true, split_true}
+use Rattle.plan_lang.proofs.GoodFields.{split_true}
 use Rattle.plan_lang.proofs.GoodPlans.{object_test}
 use Rattle.plan_lang.proofs.TurnLines.{one_utf8, is_plain, plain, decimal_inline, name_inline, int_inline, value_inline}
 
@@ -45,9 +44,6 @@ ascii w h = (plain w h).utf8
 
 feed : IsUtf8 (codes "\n")
 feed = one_utf8 10 (omega arith)
-
-abbrev two : {a b : List ℕ} → IsUtf8 a → IsUtf8 b → IsUtf8 (a ++ b)
-two {a} {b} h k = IsUtf8-append a b h k
 
 pub all_utf8 : {A : Type 0} (print : A → List ℕ) (xs : List A) → AllOf (λ x. IsUtf8 (print x)) xs → IsUtf8 (flat_map print xs)
 all_utf8 print [] h = IsUtf8-nil

@@ -1,5 +1,5 @@
 -- The printed line of a turn as a line of a text: UTF-8 without a line feed, which is read as this turn.
-use Rattle.std.proofs.Common.{◌≡◌, ℕ, zero, suc, ◌+◌, ◌<◌, ◌≤◌, ◌^◌, Bool, true, false, cond, eqb, ltb, leb, List, [], ◌∷◌, ◌++◌, length, Option, Some, None, Result, Ok, Err, refl, sym, ap, ◌∙◌, subst, append_assoc, arith, pos, negsuc, ℤ}
+use Rattle.std.proofs.Common.{◌≡◌, ℕ, zero, suc, ◌<◌, ◌≤◌, ◌^◌, Bool, true, eqb, ltb, leb, List, [], ◌∷◌, ◌++◌, length, Option, Some, None, refl, arith, pos, negsuc, ℤ}
 use Rattle.std.specs.Prelude.{◌&&◌, ◌||◌, not, option_and_then, codes, nat_lt, slice_index, bytes_eq}
 use Rattle.std.specs.List.{list_all, list_any}
 use Rattle.std.specs.Fmt.{decimal, signed_decimal}
@@ -34,7 +34,7 @@ use Rattle.plan_lang.proofs.CleanTurns.{are_clean_values, is_clean_turn}
 use Rattle.plan_lang.proofs.EventsAgain.{low_request, known}
 use Rattle.plan_lang.proofs.GoodFields.{both_true, split_true}
 use Rattle.plan_lang.proofs.PathsAgain.{all_figures, small, low, numeral_is, digits_of, digits_figures, dotted_figures, path_small}
-use Rattle.plan_lang.proofs.TurnsAgain.{Again, low_count, turn_again}
+use Rattle.plan_lang.proofs.TurnsAgain.{Again, low_count}
 
 -- UTF-8 without a line feed
 pub record Inline (w : List ℕ) : Type 0 where

@@ -1,9 +1,8 @@
 -- A text of turns, line by line: what is known of the turns that it spells, and that printed turns are read again.
-use Rattle.std.proofs.Common.{◌≡◌, ℕ, zero, suc, ◌+◌, ◌<◌, ◌≤◌, Bool, true, false, cond, eqb, List, [], ◌∷◌, ◌++◌, length, map, Option, Some, None, Result, Ok, Err, refl, sym, ap, ◌∙◌, subst, append_assoc, length-append, arith}
-use Rattle.std.specs.Prelude.{◌&&◌, not, IfOk, codes, flat_map, nat_lt}
+use Rattle.std.proofs.Common.{◌≡◌, ℕ, ◌+◌, Bool, true, false, cond, List, [], ◌∷◌, ◌++◌, length, Option, Some, None, Result, Ok, Err, refl, sym, ap, ◌∙◌, subst, append_assoc, arith}
+use Rattle.std.specs.Prelude.{◌&&◌, IfOk, codes, flat_map, nat_lt}
 use Rattle.std.specs.List.{list_all}
 use Rattle.std.specs.Str.{IsUtf8, is_utf8}
-use Rattle.std.proofs.lemmas.Bool.Decides.{nat_tests}
 use Rattle.std.proofs.lemmas.List.{append-nil}
 use Rattle.std.proofs.lemmas.Str.{IsUtf8-nil, IsUtf8-append, IsUtf8-from_is_utf8}
 use Rattle.boki_types.specs.declared.kind.Kind.{Kind}
@@ -26,11 +25,11 @@ use Rattle.plan_lang.specs.Bodies.{first_fault}
 use Rattle.plan_lang.specs.Heads.{head_line, has_ended, objects_fault, no_head}
 use Rattle.plan_lang.specs.Printed.{turn_text, turn_line as printed_line}
 use Rattle.plan_lang.specs.Texts.{Takes, line_by, spelled_line, read_line, whole_line, goes_on, lines_from, scan, head_fault, plan_made, refuse}
-use Rattle.plan_lang.specs.Turns.{turn_of, with_turn, with_turn_head, turn_text_by, turn_line, no_turns, turns_named, turns_stopped, turns_ended, turns_finished, turns_in, turns_of}
+use Rattle.plan_lang.specs.Turns.{turn_of, with_turn, with_turn_head, turn_text_by, turn_line, no_turns, turns_named, turns_stopped, turns_finished, turns_in, turns_of}
 use Rattle.plan_lang.specs.TurnTexts.{is_turn, lines_of, numbered}
 use Rattle.plan_lang.proofs.CleanTurns.{is_clean_turn, turn_clean}
-use Rattle.plan_lang.proofs.GoodFields.{Fine, Whole, both_true, split_true}
-use Rattle.plan_lang.proofs.GoodPlans.{not_true, all_more, none_first, none_or}
+use Rattle.plan_lang.proofs.GoodFields.{Whole, both_true}
+use Rattle.plan_lang.proofs.GoodPlans.{all_more, none_first, none_or}
 use Rattle.plan_lang.proofs.HeadsAgain.{not_ended}
 use Rattle.plan_lang.proofs.ScansAgain.{plain_from, plain_scan, piece_then, tokens_read, Widens}
 use Rattle.plan_lang.proofs.TurnLines.{Inline, one_utf8, ReadsBack, turn_begins}
@@ -137,8 +136,8 @@ turned P n d (Some (r.Fine x)) p e g s c =
     let turns = d.turns ++ (n, x.turn) ∷ [] in
     let fault = first_fault d.fault n x.fault in
     let good : fault ≡ None → list_all (turn_test fs) turns ≡ true = λ none.
-        let q = none_first d.fault n x.fault none in
-        all_more (turn_test fs) d.turns (n, x.turn) (g q.0) (fine_both fs x q.1 s c) in
+    let q = none_first d.fault n x.fault none in
+    all_more (turn_test fs) d.turns (n, x.turn) (g q.0) (fine_both fs x q.1 s c) in
     let Q : Bool → Type 0 = λ b. TurnsAt b fs fault turns in
     record { head = p; turns = subst Q (sym e) good }
 

@@ -1,5 +1,5 @@
 -- The canonical text of turns is read again as these turns.
-use Rattle.std.proofs.Common.{◌≡◌, ℕ, ◌+◌, ◌≤◌, Bool, true, false, List, [], ◌∷◌, ◌++◌, length, map, Option, Some, None, Result, Ok, Err, refl, sym, ap, ◌∙◌, subst, length-append, arith}
+use Rattle.std.proofs.Common.{◌≡◌, ℕ, ◌+◌, ◌≤◌, true, List, [], ◌∷◌, length, map, None, Result, Ok, refl, sym, ap, ◌∙◌, subst, arith}
 use Rattle.std.specs.Prelude.{◌&&◌, IfOk, codes, flat_map, nat_le}
 use Rattle.std.specs.List.{list_all}
 use Rattle.std.specs.Str.{IsUtf8}
@@ -18,13 +18,11 @@ use Rattle.script_lang.specs.Names.{name_fault, or_else}
 use Rattle.script_lang.proofs.GoodDrafts.{line_good}
 use Rattle.script_lang.proofs.GoodNames.{functions_pass}
 use Rattle.script_lang.proofs.ProgramAgain.{functions_free}
-use Rattle.plan_lang.specs.declared.drafts.TurnDraft.{TurnDraft}
-use Rattle.plan_lang.specs.declared.fault.PlanFault.{PlanFault}
 use Rattle.plan_lang.specs.declared.heads.Due.TheVariants as due
 use Rattle.plan_lang.specs.declared.heads.Head.{Head}
 use Rattle.plan_lang.specs.Heads.{head_line, has_ended, no_head, objects_fault}
 use Rattle.plan_lang.specs.Printed.{head_text, turn_line as printed_line}
-use Rattle.plan_lang.specs.Texts.{scan, head_fault, plan_made}
+use Rattle.plan_lang.specs.Texts.{head_fault, plan_made}
 use Rattle.plan_lang.specs.Turns.{turn_line, no_turns, turns_named, turns_stopped, turns_finished, turns_of}
 use Rattle.plan_lang.specs.TurnTexts.{is_turn, front_text, turns_text, lines_of, numbered, renumbered}
 use Rattle.plan_lang.proofs.CleanHeads.{CleanHead, head_clean, no_head_clean}
@@ -38,7 +36,7 @@ use Rattle.plan_lang.proofs.PlanLemmas.{turns_short}
 use Rattle.plan_lang.proofs.PlansAgain.{objects_free}
 use Rattle.plan_lang.proofs.ScansAgain.{plain_scan, piece_then, widened, within_limits}
 use Rattle.plan_lang.proofs.TurnLines.{one_utf8, plain, turn_inline, reads_back}
-use Rattle.plan_lang.proofs.TurnScans.{scan_count, drafted, Printable, AllPrintable, scan_turns, turns_utf8, head_widens, turn_test, Keeps, origin}
+use Rattle.plan_lang.proofs.TurnScans.{scan_count, drafted, AllPrintable, scan_turns, turns_utf8, head_widens, turn_test, Keeps, origin}
 use Rattle.plan_lang.proofs.TurnsAgain.{turn_again}
 use Rattle.plan_lang.proofs.Utf8Tokens.{are_clean, CleanLine, line_clean}
 

@@ -11,7 +11,7 @@ use Rattle.boki_types.specs.declared.kind.Kind.{Kind}
 use Rattle.boki_types.specs.declared.program.Function.{Function}
 use Rattle.boki_types.specs.declared.turn.Turn.{Turn}
 use Rattle.boki_types.specs.declared.turn.Turn.TheVariants as u
-use Rattle.boki_types.specs.Finding.{find, function_at}
+use Rattle.boki_types.specs.Finding.{function_at}
 use Rattle.boki_model.specs.Bodies.{is_word_text, is_identifier, is_value}
 use Rattle.boki_model.specs.Plans.{from_to, has_arity, names, distinct, is_function, is_program}
 use Rattle.script_lang.specs.declared.token.Key.TheVariants as k
@@ -23,17 +23,17 @@ use Rattle.script_lang.specs.Names.{call_fault}
 use Rattle.script_lang.specs.Printed.{listed}
 use Rattle.script_lang.specs.Statements.{both, map_rated, alone, call_at}
 use Rattle.script_lang.specs.Tokens.{word_token, key_of, tokens_in}
-use Rattle.script_lang.proofs.Relexed.{Lexed, space, Lexes, word_lexed}
+use Rattle.script_lang.proofs.Relexed.{Lexed, space, word_lexed}
 use Rattle.plan_lang.specs.declared.turns.TurnEntry.{TurnEntry}
 use Rattle.plan_lang.specs.Events.{number_of, request_at}
 use Rattle.plan_lang.specs.Fields.{number_by, number_at, path_at}
 use Rattle.plan_lang.specs.Printed.{name_at, turn_text}
 use Rattle.plan_lang.specs.Turns.{called, submit_of, callless, go_of, end_of, turn_behind, turn_of}
 use Rattle.plan_lang.specs.TurnTexts.{is_turn}
-use Rattle.plan_lang.proofs.EventsAgain.{one_fine, two_fine, low_request, request_flag, Known, known, identifiers}
+use Rattle.plan_lang.proofs.EventsAgain.{two_fine, low_request, request_flag, Known, known, identifiers}
 use Rattle.plan_lang.proofs.FieldsAgain.{call_again}
-use Rattle.plan_lang.proofs.GoodEvents.{Called, called as called_good, by_fault, call_test, call_good, request_good}
-use Rattle.plan_lang.proofs.GoodFields.{Fine, At, Whole, map_good, both_true, split_true, pair_test, both_good, alone_good, bind_good, number_good, path_good}
+use Rattle.plan_lang.proofs.GoodEvents.{called as called_good, by_fault, call_test, call_good, request_good}
+use Rattle.plan_lang.proofs.GoodFields.{Whole, map_good, both_true, split_true, pair_test, both_good, alone_good, bind_good, number_good, path_good}
 use Rattle.plan_lang.proofs.PathsAgain.{path_token, path_lexed, path_small, path_again}
 use Rattle.plan_lang.proofs.TokensAgain.{Cuts, whole, number_piece, spaced, behind_word, call_tokens, call_piece}
 
