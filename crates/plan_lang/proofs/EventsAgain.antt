@@ -53,10 +53,10 @@ again : (setup : Setup) (fs : List Function) (text : List ℕ) (us : List Token)
 again setup fs text us found l h = ap (option_and_then (entry_of setup fs)) (whole text us l) ∙ h
 
 -- Fields in range.
-one_fine : {A D : Type 0} (f : A → D) (a : A) (x : Bool) → x ≡ true → map_rated f (fine_if x a) ≡ r.Fine (f a)
+pub one_fine : {A D : Type 0} (f : A → D) (a : A) (x : Bool) → x ≡ true → map_rated f (fine_if x a) ≡ r.Fine (f a)
 one_fine f a x h = rw h refl
 
-two_fine : {A B D : Type 0} (f : A × B → D) (a : A) (b : B) (x y : Bool) → x ≡ true → y ≡ true → map_rated f (both (fine_if x a) (fine_if y b)) ≡ r.Fine (f (a, b))
+pub two_fine : {A B D : Type 0} (f : A × B → D) (a : A) (b : B) (x y : Bool) → x ≡ true → y ≡ true → map_rated f (both (fine_if x a) (fine_if y b)) ≡ r.Fine (f (a, b))
 two_fine f a b x y h k = rw (h, k) refl
 
 three_fine : {A B C D : Type 0} (f : (A × B) × C → D) (a : A) (b : B) (c : C) (x y z : Bool) → x ≡ true → y ≡ true → z ≡ true → map_rated f (both (both (fine_if x a) (fine_if y b)) (fine_if z c)) ≡ r.Fine (f ((a, b), c))
@@ -72,10 +72,10 @@ low_tag tag h = grind (arith, nat_tests, h)
 low_attempt : (n : ℕ) → is_attempt n ≡ true → n < 2 ^ 64
 low_attempt n h = grind (arith, nat_tests, h)
 
-low_request : (n : ℕ) → is_request n ≡ true → n < 2 ^ 64
+pub low_request : (n : ℕ) → is_request n ≡ true → n < 2 ^ 64
 low_request n h = grind (arith, nat_tests, h)
 
-request_flag : (n : ℕ) → is_request n ≡ true → from_to 1 1048575 n ≡ true
+pub request_flag : (n : ℕ) → is_request n ≡ true → from_to 1 1048575 n ≡ true
 request_flag n h = grind (arith, nat_tests, h)
 
 pub record Small (setup : Setup) : Type 0 where
@@ -314,17 +314,17 @@ settled_again setup fs n shard local s h k l w =
 same_name : (x : List ℕ) → bytes_eq x x ≡ true
 same_name x = (bytes_eq-Decides x x).1 refl
 
-record Known (fs : List Function) (f n : ℕ) : Type 0 where
-  name : is_identifier (name_at fs f) ≡ true
-  found : find (name_at fs f) fs ≡ Some f
-  fault : call_fault fs (name_at fs f) n ≡ None
+pub record Known (fs : List Function) (f n : ℕ) : Type 0 where
+  pub name : is_identifier (name_at fs f) ≡ true
+  pub found : find (name_at fs f) fs ≡ Some f
+  pub fault : call_fault fs (name_at fs f) n ≡ None
 
 other_name : (fs : List Function) (f n : ℕ) (y : List ℕ) → has_arity n (function_at f fs) ≡ true → has y (names fs) ≡ false → bytes_eq (name_at fs f) y ≡ false
 other_name [] f n y a h = absurd (cc)
 other_name (g ∷ fs) zero n y a h = flip g.name y ∙ (split_or (bytes_eq y g.name) (has y (names fs)) h).0
 other_name (g ∷ fs) (suc f) n y a h = other_name fs f n y a ((split_or (bytes_eq y g.name) (has y (names fs)) h).1)
 
-known : (fs : List Function) (f n : ℕ) → distinct (names fs) ≡ true → list_all is_identifier (names fs) ≡ true → has_arity n (function_at f fs) ≡ true → Known fs f n
+pub known : (fs : List Function) (f n : ℕ) → distinct (names fs) ≡ true → list_all is_identifier (names fs) ≡ true → has_arity n (function_at f fs) ≡ true → Known fs f n
 known [] f n d i a = absurd (cc)
 known (g ∷ fs) zero n d i a = record {
   name = (split_true (is_identifier g.name) (list_all is_identifier (names fs)) i).0;

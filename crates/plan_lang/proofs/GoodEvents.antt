@@ -101,7 +101,7 @@ listed_values : (q : Bool × List Token) → ValuesGood (listed_by value_at q)
 listed_values (true, ts) = refl
 listed_values (false, ts) = closed_values (several value_at ts) (many_good is_value value_at value_good (length ts) ts)
 
-abbrev call_test : List ℕ × List Value → Bool
+abbrev pub call_test : List ℕ × List Value → Bool
 call_test = pair_test (λ _. true) (list_all is_value)
 
 name_free : (x : Rated (List ℕ)) → Fine (λ _. true) x
@@ -311,7 +311,7 @@ submit_by setup fs p None h t =
     both_true ((is_one_of setup.engines p.0.0 && is_request p.0.1) && list_all is_value p.1.1) _ (both_true (is_one_of setup.engines p.0.0 && is_request p.0.1) (list_all is_value p.1.1) s.0 s.1) has
 submit_by setup fs p (Some k) h t = refl
 
-request_good : (ts : List Token) → At is_request (request_at ts)
+pub request_good : (ts : List Token) → At is_request (request_at ts)
 request_good ts = at_weaker (from_to 1 1048575) is_request (request_at ts) request_is (number_good 1 1048575 ts)
 
 submit_good : (setup : Setup) (fs : List Function) (ts : List Token) → Whole (sound setup fs) (submit_of setup fs ts)

@@ -101,7 +101,7 @@ pub record GoodHead (h : Head) : Type 0 where
 abbrev HeadOk : Result Head Kind → Type 0
 HeadOk o = IfOk o GoodHead
 
-all_more : {A : Type 0} (p : A → Bool) (xs : List A) (x : A) → list_all p xs ≡ true → p x ≡ true → list_all p (xs ++ x ∷ []) ≡ true
+pub all_more : {A : Type 0} (p : A → Bool) (xs : List A) (x : A) → list_all p xs ≡ true → p x ≡ true → list_all p (xs ++ x ∷ []) ≡ true
 all_more p [] x h e = both_true (p x) true e refl
 all_more p (y ∷ ys) x h e =
     let s = split_true (p y) (list_all p ys) h in both_true (p y) (list_all p (ys ++ x ∷ [])) s.0 (all_more p ys x s.1 e)
@@ -211,13 +211,13 @@ between_good : (close : List ℕ) (n : ℕ) (ts : List Token) (h : Head) (b : Bo
 between_good close n ts h true t g = drafted n ts h t g
 between_good close n ts h false t g = led_good n ts h (lead_of close ts) t g
 
-due_good : (close : List ℕ) (n : ℕ) (ts : List Token) (h : Head) (d : Due) → GoodTokens ts → GoodHead h → HeadOk (due_line close n ts h d)
+pub due_good : (close : List ℕ) (n : ℕ) (ts : List Token) (h : Head) (d : Due) → GoodTokens ts → GoodHead h → HeadOk (due_line close n ts h d)
 due_good close n ts h due.Setup t g = with_setup_good h (setup_of ts) g (setup_good ts)
 due_good close n ts h due.Objects t g = between_good close n ts h (is_inside h.draft.stage) t g
 due_good close n ts h due.Functions t g = between_good close n ts h (is_inside h.draft.stage) t g
 due_good close n ts h due.Rest t g = tt
 
-no_head_good : GoodHead no_head
+pub no_head_good : GoodHead no_head
 no_head_good = record { setup = refl; objects = refl; draft = no_draft_good }
 
 -- Bodies.
@@ -291,7 +291,7 @@ closed_body setup fs b (Some block) [] g h = closed_list setup fs b block block.
 closed_body setup fs b (Some block) (t ∷ ts) g h = tt
 closed_body setup fs b None ts g h = tt
 
-none_first : (fault : Option (ℕ × Kind)) (n : ℕ) (found : Option Kind) → first_fault fault n found ≡ None → (fault ≡ None) × (found ≡ None)
+pub none_first : (fault : Option (ℕ × Kind)) (n : ℕ) (found : Option Kind) → first_fault fault n found ≡ None → (fault ≡ None) × (found ≡ None)
 none_first (Some f) n found e = absurd (cc)
 none_first None n None e = (refl, refl)
 none_first None n (Some k) e = absurd (cc)

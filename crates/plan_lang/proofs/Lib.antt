@@ -1,3 +1,7 @@
+pub mod CleanHeads
+pub mod CleanReads
+pub mod CleanStmts
+pub mod CleanTurns
 pub mod DotLemmas
 pub mod EventsAgain
 pub mod FewLemmas
@@ -6,8 +10,9 @@ pub mod FlatLemmas
 pub mod GoodFields
 pub mod GoodEvents
 pub mod GoodPlans
-pub mod ObjectLemmas
 pub mod HeadsAgain
+pub mod HeadsUtf8
+pub mod ObjectLemmas
 pub mod PathsAgain
 pub mod PiecesAgain
 pub mod PlanLemmas
@@ -20,3 +25,8 @@ pub mod TextsPlanned
 pub mod TextsPrinted
 pub mod TextsRead
 pub mod TokensAgain
+pub mod TurnLines
+pub mod TurnScans
+pub mod TurnsAgain
+pub mod TurnTextsAgain
+pub mod Utf8Tokens

@@ -96,13 +96,13 @@ from_num w n false e h = absurd (cc)
 pub numeral_is : (n : ℕ) → n < 2 ^ 64 → is_numeral (decimal n) ≡ true
 numeral_is n l = from_num (decimal n) n (is_numeral (decimal n) && ltb (digits_value 10 (decimal n)) (2 ^ 64)) refl (numeral-reads_back n l)
 
-digits_of : (w : List ℕ) → is_numeral w ≡ true → all_ascii_digits w ≡ true
+pub digits_of : (w : List ℕ) → is_numeral w ≡ true → all_ascii_digits w ≡ true
 digits_of w h = (split_true (ltb 0 (length w)) (all_ascii_digits w) ((split_true (ltb 0 (length w) && all_ascii_digits w) _ h).0)).1
 
 digit_figure : (c : ℕ) → is_ascii_digit c ≡ true → in_class Figure c ≡ true
 digit_figure c h = rw h refl
 
-digits_figures : (w rest : List ℕ) → all_ascii_digits w ≡ true → all_figures rest ≡ true → all_figures (w ++ rest) ≡ true
+pub digits_figures : (w rest : List ℕ) → all_ascii_digits w ≡ true → all_figures rest ≡ true → all_figures (w ++ rest) ≡ true
 digits_figures [] rest h k = k
 digits_figures (c ∷ cs) rest h k =
     let s = split_true (is_ascii_digit c) (all_ascii_digits cs) h in
@@ -123,10 +123,10 @@ dot_behind (c ∷ cs) rest = or_right (eqb c 46) (has_dot (cs ++ (46 ∷ rest)))
 abbrev pub small : List ℕ → Bool
 small ns = list_all (λ n. nat_lt n (2 ^ 64)) ns
 
-low : (n : ℕ) → nat_lt n (2 ^ 64) ≡ true → n < 2 ^ 64
+pub low : (n : ℕ) → nat_lt n (2 ^ 64) ≡ true → n < 2 ^ 64
 low n h = grind (arith, nat_tests, h)
 
-dotted_figures : (ns : List ℕ) → small ns ≡ true → all_figures (dotted ns) ≡ true
+pub dotted_figures : (ns : List ℕ) → small ns ≡ true → all_figures (dotted ns) ≡ true
 dotted_figures [] h = refl
 dotted_figures (n ∷ ns) h =
     let s = split_true (nat_lt n (2 ^ 64)) (small ns) h in

@@ -4,5 +4,6 @@ pub mod Heads
 pub mod Bodies
 pub mod Texts
 pub mod Turns
+pub mod TurnTexts
 pub mod Printed
 pub mod Generated

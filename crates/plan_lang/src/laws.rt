@@ -5,15 +5,20 @@ ghost use Rattle.boki_types.specs.declared.event.Event.{Event};
 ghost use Rattle.boki_types.specs.declared.plan.Plan.{Plan};
 ghost use Rattle.boki_types.specs.declared.plan.Setup.{Setup};
 ghost use Rattle.boki_types.specs.declared.program.Function.{Function};
+ghost use Rattle.boki_types.specs.declared.turn.Turn.{Turn};
+ghost use Rattle.boki_types.specs.declared.turn.TurnText.{TurnText};
 ghost use Rattle.boki_model.specs.Plans.{is_setup, is_program, is_event, is_plan};
 ghost use Rattle.script_lang.specs.declared.rated.Rated.TheVariants.{Fine};
 ghost use Rattle.script_lang.specs.declared.token.Token.{Token};
 ghost use Rattle.script_lang.specs.Lines.{lines_in};
 ghost use Rattle.script_lang.specs.Tokens.{tokens_in};
 ghost use Rattle.plan_lang.specs.declared.events.Entry.{Entry};
+ghost use Rattle.plan_lang.specs.declared.turns.TurnEntry.{TurnEntry};
 ghost use Rattle.plan_lang.specs.Events.{entry_of};
-ghost use Rattle.plan_lang.specs.Printed.{event_text, plan_text};
+ghost use Rattle.plan_lang.specs.Printed.{event_text, plan_text, turn_text};
 ghost use Rattle.plan_lang.specs.Texts.{plan_of};
+ghost use Rattle.plan_lang.specs.TurnTexts.{is_turn, turns_text, lines_of, renumbered};
+ghost use Rattle.plan_lang.specs.Turns.{turn_of, turns_of};
 
 /// An event that is read below a setup and functions, and whose call has no fault, is one that a plan with these can have.
 pub fn read_event_is_one()
@@ -33,4 +38,19 @@ pub fn printed_event_is_read_again()
 /// The canonical text of a plan that a text spells is read again as this plan, where it is within the limits of a text.
 pub fn printed_plan_is_read_again()
     ensures { (text : List ℕ) (plan : Plan) → plan_of text ≡ Ok plan → length (plan_text plan) ≤ 1048576 → length (lines_in (plan_text plan)).0 ≤ 65536 → plan_of (plan_text plan) ≡ Ok plan }
+{}
+
+/// The printed line of a turn that a text with these functions can have is read again as this turn.
+pub fn printed_turn_is_read_again()
+    ensures { (fs : List Function) (x : Turn) → is_program (record { functions = fs }) ≡ true → is_turn fs x ≡ true → option_and_then (turn_of fs) (tokens_in (turn_text fs x)) ≡ Some (Fine (record { turn = x; fault = None })) }
+{}
+
+/// A turn that is read below functions, and whose call has no fault, is one that a text with these functions can have.
+pub fn read_turn_is_one()
+    ensures { (fs : List Function) (ts : List Token) (x : TurnEntry) → turn_of fs ts ≡ Some (Fine x) → x.fault ≡ None → is_turn fs x.turn ≡ true }
+{}
+
+/// The canonical text of turns that a text spells is read again as these turns, each with the number of its line there, where it is within the limits of a text.
+pub fn printed_turns_are_read_again()
+    ensures { (text : List ℕ) (t : TurnText) → turns_of text ≡ Ok t → length (turns_text t) ≤ 16777216 → lines_of (turns_text t) ≤ 300000 → turns_of (turns_text t) ≡ Ok (renumbered t) }
 {}

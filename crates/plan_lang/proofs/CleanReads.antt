@@ -1,0 +1,166 @@
+-- What is read from tokens whose quoted texts are UTF-8: values, and lists with commas between.
+use Rattle.std.proofs.Common.{◌≡◌, ℕ, zero, suc, ◌^◌, Bool, true, false, cond, List, [], ◌∷◌, ◌++◌, length, Option, Some, None, option_map, refl}
+use Rattle.std.specs.Prelude.{option_and_then, nat_lt, nat_le, pos, neg_ℤ}
+use Rattle.std.specs.List.{list_all}
+use Rattle.std.specs.Str.{is_utf8}
+use Rattle.lb_base.specs.declared.value.Value.{Value}
+use Rattle.lb_base.specs.declared.value.Value.TheVariants as v
+use Rattle.lb_base.specs.Quoted.{quoted}
+use Rattle.script_lang.specs.declared.rated.Rated.{Rated}
+use Rattle.script_lang.specs.declared.rated.Rated.TheVariants as r
+use Rattle.script_lang.specs.declared.several.Several.{Several}
+use Rattle.script_lang.specs.declared.token.Key.TheVariants as k
+use Rattle.script_lang.specs.declared.token.Mark.{Mark}
+use Rattle.script_lang.specs.declared.token.Mark.TheVariants as m
+use Rattle.script_lang.specs.declared.token.Token.{Token}
+use Rattle.script_lang.specs.declared.token.Token.TheVariants as t
+use Rattle.script_lang.specs.Expressions.{is_zero}
+use Rattle.script_lang.specs.Statements.{Reader, both, fine_if, need, needed, cons, one_more, more_by, many_on, many, several, few, positive_value, negative_value, minus_value, value_at, closed_many, listed_by, listed, applied}
+use Rattle.script_lang.specs.Stream.{taken, same_mark}
+use Rattle.plan_lang.proofs.GoodFields.{Fine, Whole, fine_good, map_good, both_true, split_true, pair_test, both_good}
+use Rattle.plan_lang.proofs.Utf8Tokens.{is_clean, are_clean}
+
+abbrev pub is_clean_value : Value → Bool
+is_clean_value (v.Text x) = is_utf8 (quoted x)
+is_clean_value _ = true
+
+-- what was read passes a test, and the quoted texts behind it are UTF-8
+abbrev pub Leaves : {A : Type 0} → (A → Bool) → Option (Rated A × List Token) → Type 0
+Leaves p None = Unit {0}
+Leaves p (Some x) = Fine p x.0 × (are_clean x.1 ≡ true)
+
+abbrev pub Reads : {A : Type 0} → (A → Bool) → Reader A → Type 0
+Reads p read = (ts : List Token) → are_clean ts ≡ true → Leaves p (read ts)
+
+pub any_fine : {A : Type 0} (x : Rated A) → Fine (λ _. true) x
+any_fine (r.Fine a) = refl
+any_fine r.Wide = tt
+any_fine r.Deep = tt
+
+pub bind_clean : {A C : Type 0} (p : A → Bool) (q : C → Bool) (o : Option (Rated A × List Token)) (f : Rated A × List Token → Option (Rated C)) → Leaves p o → ((x : Rated A × List Token) → Fine p x.0 → are_clean x.1 ≡ true → Whole q (f x)) → Whole q (option_and_then f o)
+bind_clean p q None f h k = tt
+bind_clean p q (Some x) f h k = k x h.0 h.1
+
+pub clean_front : (ts us : List Token) → are_clean (ts ++ us) ≡ true → (are_clean ts ≡ true) × (are_clean us ≡ true)
+clean_front [] us h = (refl, h)
+clean_front (x ∷ ts) us h =
+    let s = split_true (is_clean x) (are_clean (ts ++ us)) h in
+    let k = clean_front ts us s.1 in (both_true (is_clean x) (are_clean ts) s.0 k.0, k.1)
+
+-- Values.
+positive_by : (n : ℕ) (b : Bool) → Fine is_clean_value (cond b (r.Fine (v.Int (pos n))) r.Wide)
+positive_by n true = refl
+positive_by n false = tt
+
+positive_clean : (o : Option ℕ) → Fine is_clean_value (positive_value o)
+positive_clean None = tt
+positive_clean (Some n) = positive_by n (nat_lt n (2 ^ 63))
+
+negative_by : (n : ℕ) (b : Bool) → Fine is_clean_value (cond b (r.Fine (v.Int (neg_ℤ (pos n)))) r.Wide)
+negative_by n true = refl
+negative_by n false = tt
+
+negative_clean : (o : Option ℕ) → Fine is_clean_value (negative_value o)
+negative_clean None = tt
+negative_clean (Some n) = negative_by n (nat_le n (2 ^ 63))
+
+minus_by : (n : Option ℕ) (ts : List Token) (b : Bool) → are_clean ts ≡ true → Leaves is_clean_value (cond b None (Some (negative_value n, ts)))
+minus_by n ts true h = tt
+minus_by n ts false h = (negative_clean n, h)
+
+minus_clean : (ts : List Token) → are_clean ts ≡ true → Leaves is_clean_value (minus_value ts)
+minus_clean (t.Num n ∷ ts) h = minus_by n ts (is_zero n) h
+minus_clean _ h = tt
+
+pub value_clean : Reads is_clean_value value_at
+value_clean (t.Num n ∷ ts) h = (positive_clean n, h)
+value_clean (t.Minus true ∷ ts) h = minus_clean ts h
+value_clean (t.Text x ∷ ts) h =
+    let s = split_true (is_utf8 (quoted x)) (are_clean ts) h in
+    (fine_good is_clean_value (nat_le (length x) 256) (v.Text x) (λ _. s.0), s.1)
+value_clean (t.Key k.Nothing ∷ ts) h = (refl, h)
+value_clean _ h = tt
+
+-- Marks.
+taken_by : (b : Bool) (first : Mark) (ts : List Token) → are_clean ts ≡ true → are_clean (cond {A = Bool × List Token} b (true, ts) (false, t.Mark first ∷ ts)).1 ≡ true
+taken_by true first ts h = h
+taken_by false first ts h = h
+
+pub taken_clean : (mark : Mark) (ts : List Token) → are_clean ts ≡ true → are_clean (taken mark ts).1 ≡ true
+taken_clean mark [] h = h
+taken_clean mark (t.Mark first ∷ ts) h = taken_by (same_mark first mark) first ts h
+taken_clean mark (t.Num n ∷ ts) h = h
+taken_clean mark (t.Dotted x ∷ ts) h = h
+taken_clean mark (t.Text x ∷ ts) h = h
+taken_clean mark (t.Name x ∷ ts) h = h
+taken_clean mark (t.Key x ∷ ts) h = h
+taken_clean mark (t.Op x ∷ ts) h = h
+taken_clean mark (t.Minus x ∷ ts) h = h
+
+-- Lists.
+abbrev pub LeavesMany : {A : Type 0} → (A → Bool) → Option (Several A × List Token) → Type 0
+LeavesMany p None = Unit {0}
+LeavesMany p (Some x) = Fine (list_all p) x.0.items × (are_clean x.1 ≡ true)
+
+cons_clean : {A : Type 0} (p : A → Bool) (x : Rated A) (xs : Rated (List A)) → Fine p x → Fine (list_all p) xs → Fine (list_all p) (cons x xs)
+cons_clean p x xs h k =
+    map_good (pair_test p (list_all p)) (list_all p) (λ q. q.0 ∷ q.1) (both x xs) (λ q e. e) (both_good p (list_all p) x xs h k)
+
+one_more_clean : {A : Type 0} (p : A → Bool) (x : Rated A) (o : Option (Several A × List Token)) → Fine p x → LeavesMany p o → LeavesMany p (one_more x o)
+one_more_clean p x None h k = tt
+one_more_clean p x (Some q) h k = (cons_clean p x q.0.items h k.0, k.1)
+
+more_clean : {A : Type 0} (p : A → Bool) (others : List Token → Option (Several A × List Token)) (x : Rated A) (q : Bool × List Token) → Fine p x → are_clean q.1 ≡ true → ((ts : List Token) → are_clean ts ≡ true → LeavesMany p (others ts)) → LeavesMany p (more_by others x q)
+more_clean p others x (true, ts) h c k = one_more_clean p x (others ts) h (k ts c)
+more_clean p others x (false, ts) h c k = (cons_clean p x (r.Fine []) h refl, c)
+
+many_on_clean : {A : Type 0} (p : A → Bool) (others : List Token → Option (Several A × List Token)) (o : Option (Rated A × List Token)) → Leaves p o → ((ts : List Token) → are_clean ts ≡ true → LeavesMany p (others ts)) → LeavesMany p (many_on others o)
+many_on_clean p others None h k = tt
+many_on_clean p others (Some q) h k = more_clean p others q.0 (taken m.Comma q.1) h.0 (taken_clean m.Comma q.1 h.1) k
+
+many_clean : {A : Type 0} (p : A → Bool) (read : Reader A) → Reads p read → (n : ℕ) (ts : List Token) → are_clean ts ≡ true → LeavesMany p (many read n ts)
+many_clean p read f zero ts h = tt
+many_clean p read f (suc n) ts h = many_on_clean p (many read n) (read ts) (f ts h) (many_clean p read f n)
+
+pub several_clean : {A : Type 0} (p : A → Bool) (read : Reader A) → Reads p read → (ts : List Token) → are_clean ts ≡ true → LeavesMany p (several read ts)
+several_clean p read f ts h = many_clean p read f (length ts) ts h
+
+few_by : {A : Type 0} (p : A → Bool) (xs : Rated (List A)) (b : Bool) → Fine (list_all p) xs → Fine (list_all p) (cond b xs r.Wide)
+few_by p xs true h = h
+few_by p xs false h = tt
+
+pub few_clean : {A : Type 0} (p : A → Bool) (s : Several A) → Fine (list_all p) s.items → Fine (list_all p) (few s)
+few_clean p s h = few_by p s.items (nat_le s.count 8) h
+
+-- Lists in parentheses, behind a name.
+abbrev Items : {A : Type 0} → (A → Bool) → Option (Several A × List Token) → Type 0
+Items p None = Unit {0}
+Items p (Some x) = Fine (list_all p) x.0.items
+
+mapped : {A : Type 0} (p : A → Bool) (x : Several A) (o : Option (List Token)) → Fine (list_all p) x.items → Items p (option_map (λ ts. (x, ts)) o)
+mapped p x None h = tt
+mapped p x (Some ts) h = h
+
+closed_clean : {A : Type 0} (p : A → Bool) (o : Option (Several A × List Token)) → LeavesMany p o → Items p (closed_many o)
+closed_clean p None h = tt
+closed_clean p (Some x) h = mapped p x.0 (need m.Close x.1) h.0
+
+listed_clean : {A : Type 0} (p : A → Bool) (read : Reader A) → Reads p read → (q : Bool × List Token) → are_clean q.1 ≡ true → Items p (listed_by read q)
+listed_clean p read f (true, ts) h = refl
+listed_clean p read f (false, ts) h = closed_clean p (several read ts) (several_clean p read f ts h)
+
+abbrev pub Applied : {A : Type 0} → (A → Bool) → Option ((Rated (List ℕ) × Several A) × List Token) → Type 0
+Applied p None = Unit {0}
+Applied p (Some x) = Fine (list_all p) x.0.1.items
+
+behind_listed : {A : Type 0} (p : A → Bool) (name : Rated (List ℕ)) (o : Option (Several A × List Token)) → Items p o → Applied p (option_and_then (λ (xs : Several A × List Token). Some ((name, xs.0), xs.1)) o)
+behind_listed p name None h = tt
+behind_listed p name (Some x) h = h
+
+behind_open : {A : Type 0} (p : A → Bool) (read : Reader A) → Reads p read → (name : Rated (List ℕ)) (q : Bool × List Token) → are_clean q.1 ≡ true → Applied p (option_and_then (λ (rest : List Token). option_and_then (λ (xs : Several A × List Token). Some ((name, xs.0), xs.1)) (listed read rest)) (needed q))
+behind_open p read f name (true, ts) h = behind_listed p name (listed read ts) (listed_clean p read f (taken m.Close ts) (taken_clean m.Close ts h))
+behind_open p read f name (false, ts) h = tt
+
+pub applied_clean : {A : Type 0} (p : A → Bool) (read : Reader A) → Reads p read → (ts : List Token) → are_clean ts ≡ true → Applied p (applied read ts)
+applied_clean p read f (t.Name x ∷ ts) h = behind_open p read f (fine_if (nat_le (length x) 32) x) (taken m.Open ts) (taken_clean m.Open ts h)
+applied_clean p read f _ h = tt

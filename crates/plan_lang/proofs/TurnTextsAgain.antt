@@ -1,0 +1,144 @@
+-- The canonical text of turns is read again as these turns.
+use Rattle.std.proofs.Common.{◌≡◌, ℕ, ◌+◌, ◌≤◌, true, List, [], ◌∷◌, length, map, None, Result, Ok, refl, sym, ap, ◌∙◌, subst, arith}
+use Rattle.std.specs.Prelude.{◌&&◌, IfOk, codes, flat_map, nat_le}
+use Rattle.std.specs.List.{list_all}
+use Rattle.std.specs.Str.{IsUtf8}
+use Rattle.std.proofs.lemmas.Str.{IsUtf8-append}
+use Rattle.boki_types.specs.declared.kind.Kind.{Kind}
+use Rattle.boki_types.specs.declared.plan.Plan.{Plan}
+use Rattle.boki_types.specs.declared.program.Function.{Function}
+use Rattle.boki_types.specs.declared.turn.Turn.{Turn}
+use Rattle.boki_types.specs.declared.turn.TurnText.{TurnText}
+use Rattle.boki_model.specs.Bodies.{is_identifier}
+use Rattle.boki_model.specs.Plans.{names, distinct, is_function, is_program}
+use Rattle.script_lang.specs.declared.draft.Draft.{Draft}
+use Rattle.script_lang.specs.declared.draft.Stage.TheVariants.{Between}
+use Rattle.script_lang.specs.declared.lines.Line.{Line}
+use Rattle.script_lang.specs.Names.{name_fault, or_else}
+use Rattle.script_lang.proofs.GoodDrafts.{line_good}
+use Rattle.script_lang.proofs.GoodNames.{functions_pass}
+use Rattle.script_lang.proofs.ProgramAgain.{functions_free}
+use Rattle.plan_lang.specs.declared.heads.Due.TheVariants as due
+use Rattle.plan_lang.specs.declared.heads.Head.{Head}
+use Rattle.plan_lang.specs.Heads.{head_line, has_ended, no_head, objects_fault}
+use Rattle.plan_lang.specs.Printed.{head_text, turn_line as printed_line}
+use Rattle.plan_lang.specs.Texts.{head_fault, plan_made}
+use Rattle.plan_lang.specs.Turns.{turn_line, no_turns, turns_named, turns_stopped, turns_finished, turns_of}
+use Rattle.plan_lang.specs.TurnTexts.{is_turn, front_text, turns_text, lines_of, numbered, renumbered}
+use Rattle.plan_lang.proofs.CleanHeads.{CleanHead, head_clean, no_head_clean}
+use Rattle.plan_lang.proofs.CleanTurns.{is_clean_turn}
+use Rattle.plan_lang.proofs.EventsAgain.{identifiers}
+use Rattle.plan_lang.proofs.GoodFields.{split_true}
+use Rattle.plan_lang.proofs.GoodPlans.{GoodHead, due_good, no_head_good, none_or, few_functions}
+use Rattle.plan_lang.proofs.HeadsAgain.{headed, turns_close, head_again}
+use Rattle.plan_lang.proofs.HeadsUtf8.{head_utf8}
+use Rattle.plan_lang.proofs.PlanLemmas.{turns_short}
+use Rattle.plan_lang.proofs.PlansAgain.{objects_free}
+use Rattle.plan_lang.proofs.ScansAgain.{plain_scan, piece_then, widened, within_limits}
+use Rattle.plan_lang.proofs.TurnLines.{one_utf8, plain, turn_inline, reads_back}
+use Rattle.plan_lang.proofs.TurnScans.{scan_count, drafted, AllPrintable, scan_turns, turns_utf8, head_widens, turn_test, Keeps, origin}
+use Rattle.plan_lang.proofs.TurnsAgain.{turn_again}
+use Rattle.plan_lang.proofs.Utf8Tokens.{are_clean, CleanLine, line_clean}
+
+-- The turns are printed well.
+all_printable : (fs : List Function) (turns : List (ℕ × Turn)) → distinct (names fs) ≡ true → list_all is_identifier (names fs) ≡ true → list_all (turn_test fs) turns ≡ true → AllPrintable fs (map (λ p. p.1) turns)
+all_printable fs [] d i h = tt
+all_printable fs (p ∷ ps) d i h =
+    let s = split_true (is_turn fs p.1 && is_clean_turn p.1) (list_all (turn_test fs) ps) h in
+    let k = split_true (is_turn fs p.1) (is_clean_turn p.1) s.0 in
+    (record { line = turn_inline fs p.1 d i k.0 k.1; back = reads_back fs p.1 (turn_again fs p.1 d i k.0) }, all_printable fs ps d i s.1)
+
+pub turns_printable : (fs : List Function) (turns : List (ℕ × Turn)) → is_program (record { functions = fs }) ≡ true → list_all (turn_test fs) turns ≡ true → AllPrintable fs (map (λ p. p.1) turns)
+turns_printable fs turns p h =
+    let a = split_true (nat_le (length fs) 256 && distinct (names fs)) (list_all (is_function fs) fs) p in
+    let b = split_true (nat_le (length fs) 256) (distinct (names fs)) a.0 in
+    all_printable fs turns b.1 (identifiers fs fs a.1) h
+
+-- What stands before the turns is read as a head that has ended, without a fault.
+pub record FrontRead (plan : Plan) : Type 0 where
+  pub line : ℕ
+  pub head : Head
+  pub read : plain_scan (head_line (codes "turns")) 1 (front_text plan) no_head ≡ Ok (line, head)
+  pub ended : has_ended head.due ≡ true
+  pub free : head_fault head None ≡ None
+  pub plan_is : plan_made head [] ≡ plan
+  pub utf8 : IsUtf8 (front_text plan)
+
+ended_text : (n : ℕ) (h : Head) (turns : List (ℕ × Turn)) → has_ended h.due ≡ true → head_fault h None ≡ None → turns_finished (Ok (n, drafted h turns)) ≡ Ok (record { plan = plan_made h []; turns = turns })
+ended_text n h turns ended free =
+    ap (turns_stopped n (drafted h turns)) ended ∙ ap (turns_named h turns) free
+
+pub turns_again : (t : TurnText) → FrontRead t.plan → AllPrintable t.plan.program.functions (map (λ p. p.1) t.turns) → length (turns_text t) ≤ 16777216 → lines_of (turns_text t) ≤ 300000 → turns_of (turns_text t) ≡ Ok (renumbered t)
+turns_again t f p short few =
+    let fs = t.plan.program.functions in
+    let xs = map (λ (q : ℕ × Turn). q.1) t.turns in
+    let front = front_text t.plan in
+    let rest = flat_map (printed_line fs) xs in
+    let same : f.head.draft.functions ≡ fs = ap (λ (q : Plan). q.program.functions) f.plan_is in
+    let line : f.line ≡ lines_of front + 1 = omega (arith, scan_count (head_line (codes "turns")) 1 front no_head (f.line, f.head) f.read) in
+    let numbers = numbered f.line xs in
+    let printable : AllPrintable f.head.draft.functions xs = let P : List Function → Type 0 = λ gs. AllPrintable gs xs in subst P (sym same) p in
+    let plain : plain_scan turn_line 1 (turns_text t) no_turns ≡ Ok (f.line + length xs, drafted f.head numbers) =
+    piece_then turn_line 1 f.line front rest no_turns (drafted f.head []) (widened (head_line (codes "turns")) turn_line (λ h. drafted h []) head_widens 1 f.line front no_head f.head f.read)
+    ∙ ap (λ gs. plain_scan turn_line f.line (flat_map (printed_line gs) xs) (drafted f.head [])) (sym same)
+    ∙ scan_turns f.line f.head [] xs f.ended printable in
+    let text : IsUtf8 (turns_text t) = IsUtf8-append front rest f.utf8 (turns_utf8 fs xs p) in
+    let found = within_limits turn_line 300000 1 (turns_text t) no_turns (f.line + length xs, drafted f.head numbers) text (omega arith) plain in
+    turns_short (turns_text t) short
+    ∙ ap turns_finished found
+    ∙ ended_text (f.line + length xs) f.head numbers f.ended f.free
+    ∙ ap (λ (q : Plan). Ok (record { plan = q; turns = numbers })) f.plan_is
+    ∙ ap (λ (n : ℕ). Ok (record { plan = t.plan; turns = numbered n xs })) line
+
+-- What is known of a head of turns: it is within the limits, and its texts are UTF-8.
+record ReadHead (h : Head) : Type 0 where
+  good : GoodHead h
+  clean : CleanHead h
+
+keeps : Keeps ReadHead
+keeps n line ts h next u e g k =
+    let P : Result Head Kind → Type 0 = λ o. IfOk o GoodHead in
+    let Q : Result Head Kind → Type 0 = λ o. IfOk o CleanHead in
+    let C : Line → Type 0 = λ o. CleanLine o in
+    let c : are_clean ts ≡ true = subst C e (line_clean line u) in
+    record {
+      good = subst P k (due_good (codes "turns") n ts h h.due (line_good line ts e) g.good);
+      clean = subst Q k (head_clean (codes "turns") n ts h c g.clean);
+    }
+
+is_one : (h : Head) → GoodHead h → name_fault h.draft.functions h.draft.marks ≡ None → is_program (record { functions = h.draft.functions }) ≡ true
+is_one h g free = functions_pass h.draft.functions h.draft.marks g.draft.functions (few_functions (length h.draft.functions) h.draft.stage g.draft.stage) free
+
+-- A head without a fault is printed as a text that is read as it.
+front_read : (h : Head) → ReadHead h → objects_fault [] h.objects h.lines 0 ≡ None → name_fault h.draft.functions h.draft.marks ≡ None → FrontRead (plan_made h [])
+front_read h g apart free =
+    let plan = plan_made h [] in
+    let fs = h.draft.functions in
+    let few = few_functions (length fs) h.draft.stage g.good.draft.stage in
+    let a = head_again (codes "turns") 1 plan turns_close g.good.setup g.good.objects g.good.draft.functions few in
+    let d : Draft = record { functions = fs; marks = a.marks; stage = Between } in
+    let turns : IsUtf8 (codes "turns\n") = IsUtf8-append (codes "turns") (codes "\n") ((plain (codes "turns") refl).utf8) (one_utf8 10 (omega arith)) in
+    record {
+      line = a.line;
+      head = headed h.setup h.objects a.lines due.Rest d;
+      read = a.same;
+      ended = refl;
+      free =
+          ap (λ z. or_else z (or_else (name_fault fs a.marks) None)) (objects_free [] h.objects h.lines a.lines 0 0 apart)
+          ∙ ap (λ z. or_else z None) (functions_free fs fs h.draft.marks a.marks 0 free);
+      plan_is = refl;
+      utf8 = IsUtf8-append (head_text plan) (codes "turns\n") (head_utf8 plan g.good.setup g.good.objects g.clean.objects g.good.draft.functions g.clean.draft.functions) turns;
+    }
+
+pub printed_turns : (text : List ℕ) (t : TurnText) → turns_of text ≡ Ok t → length (turns_text t) ≤ 16777216 → lines_of (turns_text t) ≤ 300000 → turns_of (turns_text t) ≡ Ok (renumbered t)
+printed_turns text t e short few =
+    let start : ReadHead no_head = record { good = no_head_good; clean = no_head_clean } in
+    let o = origin ReadHead keeps start text t e in
+    let h = o.head in
+    let a = none_or (objects_fault [] h.objects h.lines 0) (or_else (name_fault h.draft.functions h.draft.marks) None) o.free in
+    let b = none_or (name_fault h.draft.functions h.draft.marks) None a.1 in
+    let front = subst FrontRead o.plan (front_read h o.good a.0 b.0) in
+    let same : h.draft.functions ≡ t.plan.program.functions = ap (λ (q : Plan). q.program.functions) o.plan in
+    let printable = turns_printable h.draft.functions t.turns (is_one h o.good.good b.0) o.turns in
+    let P : List Function → Type 0 = λ fs. AllPrintable fs (map (λ p. p.1) t.turns) in
+    turns_again t front (subst P same printable) short few
