@@ -13,9 +13,9 @@ use Rattle.clap.specs.declared.error.kind.ErrorKind.TheVariants as kind
 use Rattle.clap.specs.declared.parser.matches.ArgMatches.{ArgMatches}
 use Rattle.clap.proofs.OnLiterals.{clap_on_literals}
 use Rattle.boki_words.specs.CommandLine.{HasFlagIn, answer, boki, check, run}
-use Rattle.boki_words.specs.Words.{check_request, has_dashes, request, run_request}
+use Rattle.boki_words.specs.Words.{check_request, request, run_request}
 use Rattle.boki_words.specs.declared.request.Request.{Request}
-use Rattle.boki_words.proofs.Dashes.{first_clear, rest_clear}
+use Rattle.boki_words.proofs.Dashes.{first_clear, has_dashes, rest_clear}
 use Rattle.boki_words.proofs.Entering.{IsEntered, check_entered, entered_fault_is, entered_matches_are, inner, make_entered, run_entered}
 use Rattle.boki_words.proofs.Leaf.{fails, level_fails, turn_fails, walk_fails}
 use Rattle.boki_words.proofs.MakeWords.{make_reads}

@@ -1,8 +1,13 @@
--- The word `--`: words that lack it, and that the table asks for nothing where it stands.
+-- The word `--`: words that lack it, and words that ask for nothing as it is one of them.
 use Rattle.std.proofs.Common.{◌≡◌, ◌||◌, ℕ, Bool, true, false, true≢false, refl, sym, List, [], ◌∷◌, None, codes}
+use Rattle.std.specs.List.{list_any}
 use Rattle.std.specs.Str.{bytes_eq}
 use Rattle.std.proofs.lemmas.Slice.Eq.{bytes_eq-Decides}
-use Rattle.boki_words.specs.Words.{check_request, has_dashes, make_request, request, run_request}
+use Rattle.boki_words.specs.Words.{check_request, make_request, request, run_request}
+
+-- a word is `--`
+abbrev pub has_dashes : List (List ℕ) → Bool
+has_dashes = list_any (λ word. bytes_eq word (codes "--"))
 
 pub first_clear : (word : List ℕ) (words : List (List ℕ)) → has_dashes (word ∷ words) ≡ false → bytes_eq word (codes "--") ≡ false
 first_clear word words e = go (bytes_eq word (codes "--")) e

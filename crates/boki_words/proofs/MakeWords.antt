@@ -9,9 +9,9 @@ use Rattle.clap.specs.Faults.{check_fault, defaults_fault, level_fault, settle_f
 use Rattle.clap.proofs.OnLiterals.{clap_on_literals}
 use Rattle.lb_base.specs.Numeral.{num_of}
 use Rattle.boki_words.specs.CommandLine.{plan, transfers}
-use Rattle.boki_words.specs.Words.{few, has_dashes, make_request}
+use Rattle.boki_words.specs.Words.{few, make_request}
 use Rattle.boki_words.specs.declared.request.Request.{Request}
-use Rattle.boki_words.proofs.Dashes.{first_clear, rest_clear}
+use Rattle.boki_words.proofs.Dashes.{first_clear, has_dashes, rest_clear}
 use Rattle.boki_words.proofs.Leaf.{fails, fault_first, fault_second}
 use Rattle.boki_words.proofs.MakeWalk.{IsPlain, IsRefused, WordKind, at, held, is_plain, is_plan, is_refused, kind_of_word, made}
 use Rattle.boki_words.proofs.Outcomes.{Reads, failed}

@@ -1,14 +1,9 @@
 -- Which words the program accepts, and what they ask for. They stand without the program's name.
-use Rattle.std.specs.Prelude.{ℕ, ◌≤◌, ◌&&◌, Bool, List, [], ◌∷◌, Option, Some, None, nat_le, if◌then◌else◌, codes}
-use Rattle.std.specs.List.{list_any}
+use Rattle.std.specs.Prelude.{ℕ, ◌≤◌, ◌&&◌, List, [], ◌∷◌, Option, Some, None, nat_le, if◌then◌else◌, codes}
 use Rattle.std.specs.Str.{bytes_eq}
 use Rattle.lb_base.specs.Numeral.{num_of}
 use Rattle.boki_words.specs.declared.request.Request.{Request}
 use Rattle.boki_words.specs.declared.request.Request.TheVariants.{Run, Check, Make}
-
--- a word is `--`
-abbrev pub has_dashes : List (List ℕ) → Bool
-has_dashes = list_any (λ word. bytes_eq word (codes "--"))
 
 -- a plan of so many transfers, from 1 to 4,000
 abbrev pub few : Option ℕ → Option Request

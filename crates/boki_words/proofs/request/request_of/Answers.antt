@@ -4,9 +4,8 @@ use Rattle.std.specs.List.{list_any}
 use Rattle.std.specs.Str.{bytes_eq}
 use Rattle.clap.proofs.WalkLemmas.{list_any-map}
 use Rattle.clap.specs.Simple.{app_of}
-use Rattle.boki_words.specs.Words.{has_dashes}
 use Rattle.boki_words.proofs.AllWords.{taken, refused}
-use Rattle.boki_words.proofs.Dashes.{dashes_refused}
+use Rattle.boki_words.proofs.Dashes.{dashes_refused, has_dashes}
 use Rattle.boki_words.proofs.Range.{same_in_range}
 use Rattle.boki_words.proofs.request.request_of.Goals as goal
 
