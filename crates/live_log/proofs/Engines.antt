@@ -1,6 +1,7 @@
 -- What each step of an engine keeps.
-use Rattle.std.proofs.Common.{zero, suc, ◌<◌, Option, None, ◌==◌, cond, Bool, true, false, ◌≡◌, ◌≢◌, ℕ, ◌+◌, ◌≤◌, List, [], ◌∷◌, ◌++◌, length, Some, slice_get, Result, Ok, Err, IfOk, OnErr, refl, sym, ap, ◌∙◌, subst, arith, length-append}
+use Rattle.std.proofs.Common.{zero, suc, ◌<◌, Option, None, ◌==◌, cond, Bool, true, false, ◌≡◌, ◌≢◌, ℕ, ◌+◌, ◌≤◌, List, [], ◌∷◌, ◌++◌, length, map, Some, slice_get, Result, Ok, Err, IfOk, OnErr, refl, sym, ap, ◌∙◌, subst, arith, length-append}
 use Rattle.std.proofs.lemmas.Bool.Decides.{nat_tests}
+use Rattle.std.proofs.lemmas.Option.{slice_get_within}
 use mathlib.Core.List.{IsPrefix}
 use Rattle.live_log.specs.Appended.{Appended}
 use Rattle.live_log.specs.declared.hall.Entered.{Entered}
@@ -17,6 +18,11 @@ get_last (y ∷ xs) x = get_last xs x
 each_longer : (known now : List Appended) (mine : List (ℕ × Appended)) → IsPrefix known now → EachStands known mine → EachStands now mine
 each_longer known now [] p h = tt
 each_longer known now (q ∷ qs) p h = (prefix_get known now q.0 q.1 p h.0, each_longer known now qs p h.1)
+
+-- where records stand in a list, their places are below its length
+pub stands_below : (known : List Appended) (mine : List (ℕ × Appended)) → EachStands known mine → EachBelow (length known) (map (λ own. own.0) mine)
+stands_below known [] s = tt
+stands_below known (p ∷ ps) s = (slice_get_within known p.0 p.1 s.0, stands_below known ps s.1)
 
 each_new : (known : List Appended) (mine : List (ℕ × Appended)) (p : ℕ × Appended) → EachStands known mine → slice_get known p.0 ≡ Some p.1 → EachStands known (mine ++ p ∷ [])
 each_new known [] p h new = (new, tt)

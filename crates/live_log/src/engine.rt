@@ -147,12 +147,13 @@ impl<J: Naming> LiveEngine<J> {
 
     /// Looks once at what is published, and answers the position, which then covers all of it. It waits for nobody.
     ///
-    /// The list that is seen begins with what the engine had seen, what it was told and its own appends. `Refused` comes only where
-    /// the door's refusals rose in this call, and leaves the engine as it was. After `Memory` the position is between the old one
-    /// and the length of the list that was seen.
+    /// The list that is seen begins with what the engine had seen, what it was told and its own appends, so the position is no less
+    /// than any number that an earlier call of the engine answered. `Refused` comes only where the door's refusals rose in this call,
+    /// and leaves the engine as it was. After `Memory` the position is between the old one and the length of the list that was seen.
     pub fn catch_up<D: Door>(&mut self, door: &mut D) -> Result<u64, LiveFault>
         ensures counted { D.refusals door.old ≤ D.refusals door.new }
         ensures ok { IfOk result (λ n. (n ≡ self.new.at) × (self.new.at ≡ length self.new.seen) × IsPrefix self.old.known self.new.seen × (self.new.known ≡ self.new.seen)) }
+        ensures covers { IfOk result (λ n. length self.old.known ≤ n) }
         ensures own { IfOk result (λ _. EachStands self.new.seen self.new.mine) }
         ensures refused { IfErr result (λ e. e ≡ LiveFault.Refused → Rose (D.refusals door.old) (D.refusals door.new) × (self.new ≡ self.old)) }
         ensures known { IsPrefix self.old.known self.new.known }

@@ -21,6 +21,7 @@ mod shelf;
 mod tallies;
 #[cfg(test)]
 mod tests;
+mod told;
 
 pub use door::{Door, RealDoor};
 pub use engine::LiveEngine;
@@ -28,3 +29,4 @@ pub use fault::{LiveFault, Stop};
 pub use hall::{Entered, Hall, Place};
 pub use log::{CloseFault, LiveLog, Opened};
 pub use naming::Naming;
+pub use told::learn_then_catch_up;

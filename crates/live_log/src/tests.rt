@@ -4,7 +4,7 @@ ghost use Rattle.live_log.specs.Closing.{Numbered};
 
 use crate::{
     CloseFault, Door, Entered, Hall, LiveEngine, LiveFault, LiveLog, Naming, Opened, Place,
-    RealDoor,
+    RealDoor, learn_then_catch_up,
 };
 use lb_base::{Cond, List, Memory, Record, Seqnum, Tag};
 use std::alloc::Global;
@@ -84,22 +84,14 @@ impl Door for Refusing {
     }
 }
 
-// What the steps of two engines in turn answered, with 0 for a refusal.
-#[derive(Clone, Copy)]
+// What the steps of two engines in turn answered.
+#[derive(Clone, Copy, Debug, PartialEq, Eq)]
 struct Answers {
-    first: u64,
+    first: Seqnum,
     seen: u64,
-    second: u64,
+    second: Seqnum,
     told: u64,
     covered: u64,
-}
-
-fn position_or_zero(caught: Result<u64, LiveFault>) -> Option<u64> {
-    match caught {
-        Ok(position) => Some(position),
-        Err(LiveFault::Refused) => Some(0),
-        Err(LiveFault::Memory) => None,
-    }
 }
 
 // Engine 1 appends `a` and engine 2 `b`.
@@ -116,16 +108,16 @@ fn turns<J: Naming, D: Door, R: Wait>(
     let first = log
         .append(rt, &mut engines[0], record(alloc, 256, "a", None).ok()?)
         .ok()?;
-    let seen = position_or_zero(engines[1].catch_up(door))?;
+    let seen = engines[1].catch_up(door).ok()?;
     let second = log
         .append(rt, &mut engines[1], record(alloc, 256, "b", None).ok()?)
         .ok()?;
     let told = log.learn(rt, &mut engines[0]).ok()?;
-    let covered = position_or_zero(engines[0].catch_up(door))?;
+    let covered = engines[0].catch_up(door).ok()?;
     Some(Answers {
-        first: first.0,
+        first,
         seen,
-        second: second.0,
+        second,
         told,
         covered,
     })
@@ -162,12 +154,11 @@ fn give_up<J: Naming, R: Wait>(rt: &R, fault: CloseFault<J>) {
     }
 }
 
-fn two_in_turn<J: Naming, D: Door + Drop, R: Wait + Abort>(
+fn two_in_turn<J: Naming, R: Wait + Abort>(
     rt: &R,
     alloc: Global,
     opened: Opened,
-    door: D,
-    refuse: u64,
+    door: RealDoor,
 ) -> Result<(), Fail>
     requires book { opened.book ≡ J.book }
     requires engines { (opened.engines ≡ J.engines) × (J.engines ≡ 2) }
@@ -177,10 +168,14 @@ fn two_in_turn<J: Naming, D: Door + Drop, R: Wait + Abort>(
     let (log, mut engines) = opened.named::<J, R>(rt, alloc)?;
     let answers = turns(rt, alloc, &log, &mut engines, &mut door);
     let list = closed(rt, log, engines, &mut door).ok_or("not closed")?;
-    let answers = answers.ok_or("memory")?;
-    assert_eq!(rt; [answers.first, answers.second, answers.told], [1, 2, 2]);
-    assert_eq!(rt; answers.seen, if refuse == 2 { 0 } else { 1 });
-    assert_eq!(rt; answers.covered, if refuse == 3 { 0 } else { 2 });
+    let right = Answers {
+        first: Seqnum(1),
+        seen: 1,
+        second: Seqnum(2),
+        told: 2,
+        covered: 2,
+    };
+    assert_eq!(rt; answers, Some(right));
     let expected = [
         (1, record(alloc, 256, "a", None)?),
         (2, record(alloc, 256, "b", None)?),
@@ -194,28 +189,159 @@ fn two_engines(rt: HostRuntime) -> Result<(), Fail> {
     let alloc = rt.alloc();
     let mut door = RealDoor::new();
     let opened = LiveLog::open(&rt, alloc, 2, &mut door).map_err(|_| "refused")?;
-    two_in_turn::<Brand, _, _>(&rt, alloc, opened, door, 0)
+    two_in_turn::<Brand, _>(&rt, alloc, opened, door)
 }
 
-// Calls 2 and 3 are the looks of the engines, and 4 and 5 those of `close`.
+fn look_refused<J: Naming, R: Wait + Abort>(
+    rt: &R,
+    alloc: Global,
+    opened: Opened,
+    door: Refusing,
+) -> Result<(), Fail>
+    requires book { opened.book ≡ J.book }
+    requires engines { (opened.engines ≡ J.engines) × (J.engines ≡ 2) }
+    requires names { (n : ℕ) → 1 ≤ n → n ≤ 16 → slice_index opened.names (n - 1) ≡ J.names n }
+{
+    let mut door = door;
+    let (log, mut engines) = opened.named::<J, R>(rt, alloc)?;
+    let refused = engines[0].catch_up(&mut door).err();
+    let position = engines[0].position();
+    let list = closed(rt, log, engines, &mut door).ok_or("not closed")?;
+    assert_eq!(rt;
+        (refused, position, list.len()),
+        (Some(LiveFault::Refused), 0, 0)
+    );
+    Ok(())
+}
+
 #[test]
-fn refused_once(rt: HostRuntime) -> Result<(), Fail> {
+fn first_look_refused(rt: HostRuntime) -> Result<(), Fail> {
     let alloc = rt.alloc();
-    let mut first = Refusing::at(1);
-    match LiveLog::open(&rt, alloc, 2, &mut first) {
-        Err(LiveFault::Refused) => {}
-        Err(LiveFault::Memory) => return Err(Fail::from("memory")),
-        Ok(opened) => {
-            two_in_turn::<Brand, _, _>(&rt, alloc, opened, first, 1)?;
-            return Err(Fail::from("not refused"));
+    let mut door = Refusing::at(2);
+    let opened = LiveLog::open(&rt, alloc, 2, &mut door).map_err(|_| "refused")?;
+    look_refused::<Brand, _>(&rt, alloc, opened, door)
+}
+
+// What an engine answers to reads of tag 256.
+#[derive(Clone, Copy, Debug, PartialEq, Eq)]
+struct Reads {
+    position: u64,
+    count: u64,
+    first: Option<Seqnum>,
+    second: Option<Seqnum>,
+    last: Option<Seqnum>,
+    has_last: bool,
+    has_more: bool,
+}
+
+fn reads_of<J: Naming>(engine: &LiveEngine<J>) -> Reads {
+    let tag = Tag(256);
+    let position = engine.position();
+    Reads {
+        position,
+        count: engine.count(tag),
+        first: engine.next(tag, Seqnum(1)),
+        second: engine.nth(tag, 1),
+        last: engine.prev(tag, Seqnum(u64::MAX)),
+        has_last: engine.record(Seqnum(position)).is_some(),
+        has_more: engine.record(Seqnum(position.saturating_add(1))).is_some(),
+    }
+}
+
+// Whether a look at so many records was right: the engine reads just those, or what it read before the look was refused.
+fn is_right(before: Reads, after: Reads, caught: Result<u64, LiveFault>, records: u64) -> bool {
+    match caught {
+        Ok(position) => {
+            let seen = Reads {
+                position: records,
+                count: records,
+                first: Some(Seqnum(1)),
+                second: (records > 1).then_some(Seqnum(2)),
+                last: Some(Seqnum(records)),
+                has_last: true,
+                has_more: false,
+            };
+            position == records && after == seen
+        }
+        Err(LiveFault::Refused) => after == before,
+        Err(LiveFault::Memory) => false,
+    }
+}
+
+// The engines append, learn and look in turn, so many times. Answers how many looks were refused, or None where a call was not
+// right.
+fn rounds_of<J: Naming, D: Door, R: Wait>(
+    rt: &R,
+    alloc: Global,
+    log: &LiveLog<J>,
+    engines: &mut [LiveEngine<J>],
+    door: &mut D,
+    rounds: u64,
+) -> Option<u64>
+    requires { 0 < length engines.old }
+{
+    let mut refused: u64 = 0;
+    for round in 0..rounds {
+        let engine = &mut engines[round as usize % engines.len()];
+        log.append(rt, engine, record(alloc, 256, "t", None).ok()?)
+            .ok()?;
+        let before = reads_of(engine);
+        let told = log.learn(rt, engine).ok()?;
+        let caught = engine.catch_up(door);
+        if told != round + 1 || !is_right(before, reads_of(engine), caught, told) {
+            return None;
+        }
+        if caught.is_err() {
+            refused = refused.saturating_add(1);
         }
     }
-    for refuse in 2..7 {
-        let mut door = Refusing::at(refuse);
-        let opened = LiveLog::open(&rt, alloc, 2, &mut door).map_err(|_| "refused")?;
-        two_in_turn::<Brand, _, _>(&rt, alloc, opened, door, refuse)?;
+    Some(refused)
+}
+
+// The calls of the door are the opening, the looks, and those of `close`.
+fn in_rounds<J: Naming, D: Door + Drop, R: Wait + Abort>(
+    rt: &R,
+    alloc: Global,
+    opened: Opened,
+    door: D,
+    refuse: u64,
+) -> Result<(), Fail>
+    requires book { opened.book ≡ J.book }
+    requires engines { (opened.engines ≡ J.engines) × (0 < J.engines) }
+    requires names { (n : ℕ) → 1 ≤ n → n ≤ 16 → slice_index opened.names (n - 1) ≡ J.names n }
+{
+    let mut door = door;
+    let (log, mut engines) = opened.named::<J, R>(rt, alloc)?;
+    let count = engines.len();
+    let refused = rounds_of(rt, alloc, &log, engines.as_mut_slice(), &mut door, 9);
+    let list = closed(rt, log, engines, &mut door).ok_or("not closed")?;
+    let due = if refuse >= 1 && refuse <= 10 { 1 } else { 0 };
+    assert_eq!(rt; (refused, list.len()), (Some(due), 9), "at {refuse}");
+    for (at, item) in list.iter().enumerate() {
+        assert_eq!(rt; item.0 as usize, at % count + 1, "at {refuse}");
     }
     Ok(())
+}
+
+#[test]
+fn each_call_refused(rt: HostRuntime) -> Result<(), Fail> {
+    let alloc = rt.alloc();
+    for refuse in 1..14 {
+        let mut door = Refusing::at(refuse);
+        match LiveLog::open(&rt, alloc, 2, &mut door) {
+            Ok(opened) => in_rounds::<Brand, _, _>(&rt, alloc, opened, door, refuse)?,
+            Err(fault) => assert_eq!(rt; (refuse, fault), (1, LiveFault::Refused)),
+        }
+    }
+    Ok(())
+}
+
+#[test]
+fn three_in_rounds(rt: HostRuntime) -> Result<(), Fail> {
+    let alloc = rt.alloc();
+    let mut door = RealDoor::new();
+    let opened = LiveLog::open(&rt, alloc, 3, &mut door).map_err(|_| "refused")?;
+    in_rounds::<Brand, _, _>(&rt, alloc, opened, door, 0)
 }
 
 // Three records of tag 300, of which the third is dead: the tag has two live records before it, and not one.
@@ -274,13 +400,12 @@ fn three_in_turn<J: Naming, R: Wait + Abort>(
     let appended = three_records(rt, alloc, &log, &mut engines);
     let before = engines[0].position();
     let number = engines[2].number();
-    let told = log.learn(rt, &mut engines[0]).ok();
-    let caught = engines[0].catch_up(&mut door).ok();
+    let caught = learn_then_catch_up(rt, &log, &mut engines[0], &mut door).ok();
     let reads = check_reads(rt, alloc, &engines[0]);
     log.give_up(rt, engines);
     assert_eq!(rt;
-        (appended.is_some(), before, number, told, caught),
-        (true, 0, 3, Some(3), Some(3))
+        (appended.is_some(), before, number, caught),
+        (true, 0, 3, Some((3, 3)))
     );
     reads
 }
@@ -359,4 +484,13 @@ fn two_threads(rt: HostRuntime) -> Result<(), Fail> {
     let mut door = RealDoor::new();
     let opened = LiveLog::open(&rt, alloc, 2, &mut door).map_err(|_| "refused")?;
     in_threads::<Brand, _>(&rt, alloc, opened, door)
+}
+
+#[test]
+fn faults_in_words(rt: HostRuntime) -> Result<(), Fail> {
+    assert_eq!(rt;
+        format!(in rt.alloc(); "{}, {}", LiveFault::Refused, LiveFault::Memory)?.as_str(),
+        "the door refused, out of memory"
+    );
+    Ok(())
 }

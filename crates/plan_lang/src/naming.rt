@@ -55,7 +55,7 @@ pub(crate) fn first_fault_of(
         return Ok(Some(fault));
     }
     let functions = head.draft.functions.as_slice();
-    match first_name_fault(functions, head.draft.marks.as_slice())? {
+    match first_name_fault(alloc, functions, head.draft.marks.as_slice())? {
         Some(fault) => Ok(Some(fault)),
         None => Ok(rest),
     }

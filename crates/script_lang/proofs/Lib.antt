@@ -8,6 +8,7 @@ pub mod NameLemmas
 pub mod TextLemmas
 pub mod GrammarReads
 pub mod PrintLemmas
+pub mod KnownNames
 pub mod GrammarSpelled
 pub mod GoodTokens
 pub mod GoodParts

@@ -1,6 +1,8 @@
 -- The second pass over a program: names and numbers of arguments, line by line.
-use Rattle.std.specs.Prelude.{ℕ, ◌+◌, ◌==◌, ◌&&◌, ◌||◌, not, Bool, true, List, [], ◌∷◌, ◌++◌, length, take, get_or, Option, Some, None, if◌then◌else◌, bytes_eq}
+use Rattle.std.specs.Prelude.{◌≡◌, ℕ, ◌+◌, ◌==◌, ◌&&◌, ◌||◌, not, Bool, true, List, [], ◌∷◌, ◌++◌, length, map, take, get_or, Option, Some, None, if◌then◌else◌, bytes_eq}
 use Rattle.std.specs.List.{list_all, list_any}
+use Rattle.std.specs.HashSet.{HashSet}
+use denote.Ref.{Bor}
 use Rattle.boki_types.specs.declared.kind.Kind.{Kind}
 use Rattle.boki_types.specs.declared.kind.Kind.TheVariants as kind
 use Rattle.boki_types.specs.declared.expr.Expr.{Expr, more_of-Expr, end_of-Expr}
@@ -13,6 +15,14 @@ use Rattle.boki_model.specs.Plans.{sets, distinct}
 -- whether a name is among these
 abbrev pub is_among : List (List ℕ) → List ℕ → Bool
 is_among known name = list_any (bytes_eq name) known
+
+-- the names that a set of them holds
+abbrev pub names_in : {S : Type 0} → HashSet (Bor (List ℕ)) S → List (List ℕ)
+names_in known = map (λ k. k.now) known.keys
+
+-- the same names are among both
+abbrev pub AreSameNames : List (List ℕ) → List (List ℕ) → Type 0
+AreSameNames xs ys = (name : List ℕ) → is_among xs name ≡ is_among ys name
 
 -- whether all variables of an expression are known
 abbrev pub vars_known : List (List ℕ) → Expr → Bool

@@ -1,25 +1,27 @@
 //! The second pass: names and numbers of arguments.
 
-ghost use Rattle.std.specs.Prelude.{◌≡◌, ◌++◌, ◌<◌, ◌≤◌, ◌^◌, ◌&&◌, IfOk, OnOk, length, take, get_or, bytes_eq, []};
+ghost use Rattle.std.specs.Prelude.{◌≡◌, ◌∷◌, ◌++◌, ◌<◌, ◌≤◌, ◌^◌, ◌&&◌, IfOk, OnOk, length, take, get_or, bytes_eq, []};
 ghost use Rattle.std.specs.List.{list_all, list_any};
 ghost use Rattle.boki_model.specs.Plans.{sets, distinct};
 ghost use Rattle.boki_model.specs.Maps.{has};
 ghost use Rattle.boki_model.specs.Script.{firsts};
-ghost use Rattle.script_lang.specs.Names.{is_among, vars_known, reads_known, call_fault as fault_of_call, spawn_fault, line_fault, head_fault, lines_fault, function_fault, name_fault as fault_of};
+ghost use Rattle.script_lang.specs.Names.{is_among, names_in, AreSameNames, vars_known, reads_known, call_fault as fault_of_call, spawn_fault, line_fault, head_fault, lines_fault, function_fault, name_fault as fault_of};
 
 use boki_types::{Expr, Function, Kind, Stmt};
 use lb_base::{List, Memory, Words};
+use std::alloc::Global;
+use std::collections::HashSet;
 
-/// Whether a name is among these.
-fn is_known(known: &[Words], name: &str) -> bool
-    ensures { result ≡ is_among known.now name.now }
+/// Whether a name is known.
+fn is_known(known: &HashSet<&str>, name: &str) -> bool
+    ensures { result ≡ is_among (names_in known.now) name.now }
 {
-    known.iter().any(|other| name == other.as_str())
+    known.contains(name)
 }
 
 /// Whether all variables of an expression are known. It calls itself as deep as the expression is.
-fn are_vars_known(known: &[Words], x: &Expr) -> bool
-    ensures { result ≡ vars_known known.now x.now }
+fn are_vars_known(known: &HashSet<&str>, x: &Expr) -> bool
+    ensures { result ≡ vars_known (names_in known.now) x.now }
 {
     match x {
         Expr::Int(_) => true,
@@ -33,27 +35,27 @@ fn are_vars_known(known: &[Words], x: &Expr) -> bool
     }
 }
 
-fn are_known_in(known: &[Words], exprs: &[Expr]) -> bool
-    ensures { result ≡ list_all (vars_known known.now) exprs.now }
+fn are_known_in(known: &HashSet<&str>, exprs: &[Expr]) -> bool
+    ensures { result ≡ list_all (vars_known (names_in known.now)) exprs.now }
 {
     exprs.iter().all(|x| are_vars_known(known, x))
 }
 
-fn are_known_behind(known: &[Words], pairs: &[(Words, Expr)]) -> bool
-    ensures { result ≡ list_all (λ p. vars_known known.now p.1) pairs.now }
+fn are_known_behind(known: &HashSet<&str>, pairs: &[(Words, Expr)]) -> bool
+    ensures { result ≡ list_all (λ p. vars_known (names_in known.now) p.1) pairs.now }
 {
     pairs.iter().all(|pair| are_vars_known(known, &pair.1))
 }
 
-fn are_known_in_pairs(known: &[Words], pairs: &[(Expr, Expr)]) -> bool
-    ensures { result ≡ list_all (λ p. vars_known known.now p.0 && vars_known known.now p.1) pairs.now }
+fn are_known_in_pairs(known: &HashSet<&str>, pairs: &[(Expr, Expr)]) -> bool
+    ensures { result ≡ list_all (λ p. vars_known (names_in known.now) p.0 && vars_known (names_in known.now) p.1) pairs.now }
 {
     pairs.iter().all(|pair| are_vars_known(known, &pair.0) && are_vars_known(known, &pair.1))
 }
 
 /// Whether all variables that a statement reads are known.
-fn reads_known_vars(known: &[Words], stmt: &Stmt) -> bool
-    ensures { result ≡ reads_known known.now stmt.now }
+fn reads_known_vars(known: &HashSet<&str>, stmt: &Stmt) -> bool
+    ensures { result ≡ reads_known (names_in known.now) stmt.now }
 {
     match stmt {
         Stmt::Let(_, x) => are_vars_known(known, x),
@@ -91,8 +93,8 @@ pub fn call_fault(functions: &[Function], name: &str, count: usize) -> Option<Ki
 }
 
 /// What is wrong with a statement: a name, or else a number of arguments.
-fn stmt_fault(functions: &[Function], known: &[Words], stmt: &Stmt) -> Option<Kind>
-    ensures { result ≡ line_fault functions.now known.now stmt.now }
+fn stmt_fault(functions: &[Function], known: &HashSet<&str>, stmt: &Stmt) -> Option<Kind>
+    ensures { result ≡ line_fault functions.now (names_in known.now) stmt.now }
 {
     if !reads_known_vars(known, stmt) {
         return Some(Kind::Name);
@@ -103,26 +105,45 @@ fn stmt_fault(functions: &[Function], known: &[Words], stmt: &Stmt) -> Option<Ki
     }
 }
 
-fn add_firsts(known: &mut List<Words>, pairs: &[(Words, Expr)]) -> Result<(), Memory>
-    ensures { OnOk result (known.new ≡ known.old ++ firsts pairs.now) }
+/// Adds a name.
+fn add_name<'a>(known: &mut HashSet<&'a str>, name: &'a str) -> Result<(), Memory>
+    ensures { OnOk result (AreSameNames (names_in known.new) (names_in known.old ++ name.now ∷ [])) }
+{
+    known.insert(name)?;
+    Ok(())
+}
+
+/// Adds the parameters of a function.
+fn add_params<'a>(known: &mut HashSet<&'a str>, params: &'a [Words]) -> Result<(), Memory>
+    ensures { OnOk result (AreSameNames (names_in known.new) (names_in known.old ++ params.now)) }
+{
+    'params: for param in params {
+        add_name(known, param.as_str())?;
+    }
+    Ok(())
+}
+
+/// Adds the variables that pairs set.
+fn add_firsts<'a>(known: &mut HashSet<&'a str>, pairs: &'a [(Words, Expr)]) -> Result<(), Memory>
+    ensures { OnOk result (AreSameNames (names_in known.new) (names_in known.old ++ firsts pairs.now)) }
 {
     'pairs: for pair in pairs {
-        known.push(pair.0.clone()?)?;
+        add_name(known, pair.0.as_str())?;
     }
     Ok(())
 }
 
 /// Adds the variables that a statement sets.
-fn add_sets(known: &mut List<Words>, stmt: &Stmt) -> Result<(), Memory>
-    ensures { OnOk result (known.new ≡ known.old ++ sets stmt.now) }
+fn add_sets<'a>(known: &mut HashSet<&'a str>, stmt: &'a Stmt) -> Result<(), Memory>
+    ensures { OnOk result (AreSameNames (names_in known.new) (names_in known.old ++ sets stmt.now)) }
 {
     match stmt {
-        Stmt::Let(name, _) => known.push(name.clone()?),
-        Stmt::Read(name, _) => known.push(name.clone()?),
-        Stmt::Spawn(name, _, _) => known.push(name.clone()?),
-        Stmt::Join(name, _) => known.push(name.clone()?),
-        Stmt::Pop(name, _) => known.push(name.clone()?),
-        Stmt::Commit(name, _) => known.push(name.clone()?),
+        Stmt::Let(name, _) => add_name(known, name.as_str()),
+        Stmt::Read(name, _) => add_name(known, name.as_str()),
+        Stmt::Spawn(name, _, _) => add_name(known, name.as_str()),
+        Stmt::Join(name, _) => add_name(known, name.as_str()),
+        Stmt::Pop(name, _) => add_name(known, name.as_str()),
+        Stmt::Commit(name, _) => add_name(known, name.as_str()),
         Stmt::Begin(pairs) => add_firsts(known, pairs.as_slice()),
         Stmt::ReadAll(pairs) => add_firsts(known, pairs.as_slice()),
         _ => Ok(()),
@@ -141,17 +162,19 @@ fn mark_at(marks: &[u64], at: usize) -> u64
 
 /// The first fault among the lines of a function, with the line's number.
 fn first_in_lines(
+    alloc: Global,
     functions: &[Function],
     function: &Function,
     marks: &[u64],
 ) -> Result<Option<(u64, Kind)>, Memory>
     ensures { IfOk result (λ fault. fault ≡ lines_fault functions.now function.now.params function.now.lines marks.now 1) }
 {
-    let mut known = function.params.clone()?;
+    let mut known = HashSet::new(alloc);
+    add_params(&mut known, function.params.as_slice())?;
     let lines = function.lines.as_slice();
     'lines: for i in 0..lines.len() {
         let line = &lines[i];
-        if let Some(kind) = stmt_fault(functions, known.as_slice(), line) {
+        if let Some(kind) = stmt_fault(functions, &known, line) {
             return Ok(Some((mark_at(marks, i + 1), kind)));
         }
         add_sets(&mut known, line)?;
@@ -159,13 +182,20 @@ fn first_in_lines(
     Ok(None)
 }
 
-/// Whether names differ from each other.
+/// Whether a name is among these.
+fn is_in(names: &[Words], name: &str) -> bool
+    ensures { result ≡ is_among names.now name.now }
+{
+    names.iter().any(|other| name == other.as_str())
+}
+
+/// Whether names differ from each other. It looks through all behind each: they are the few parameters of a function.
 fn are_distinct(names: &[Words]) -> bool
     ensures { result ≡ distinct names.now }
 {
     'names: for i in 0..names.len() {
         let (_, rest) = names.split_at(i + 1);
-        if is_known(rest, names[i].as_str()) {
+        if is_in(rest, names[i].as_str()) {
             return false;
         }
     }
@@ -206,6 +236,7 @@ fn head_fault_of(before: &[Function], function: &Function) -> Option<Kind>
 
 /// The first fault in a function, behind other functions, with the line's number.
 fn first_in_function(
+    alloc: Global,
     functions: &[Function],
     before: &[Function],
     function: &Function,
@@ -216,7 +247,7 @@ fn first_in_function(
     if let Some(kind) = head_fault_of(before, function) {
         return Ok(Some((mark_at(marks, 0), kind)));
     }
-    first_in_lines(functions, function, marks)
+    first_in_lines(alloc, functions, function, marks)
 }
 
 /// The first line in functions that uses a name or a number of arguments that is wrong, and which of the two it is.
@@ -226,6 +257,7 @@ fn first_in_function(
 /// no function has the name that a line calls. `Arity` comes where the first function of that name takes another number of
 /// arguments. Within a line a name comes first. `Memory` comes where there is no room for the names.
 pub fn first_name_fault(
+    alloc: Global,
     functions: &[Function],
     marks: &[List<u64>],
 ) -> Result<Option<(u64, Kind)>, Memory>
@@ -233,7 +265,7 @@ pub fn first_name_fault(
 {
     'functions: for i in 0..functions.len() {
         let (before, _) = functions.split_at(i);
-        let fault = first_in_function(functions, before, &functions[i], marks_at(marks, i))?;
+        let fault = first_in_function(alloc, functions, before, &functions[i], marks_at(marks, i))?;
         if fault.is_some() {
             return Ok(fault);
         }

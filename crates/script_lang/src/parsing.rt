@@ -43,7 +43,7 @@ fn add_text(alloc: Global, draft: Draft, number: u64, line: &str) -> Result<Draf
 }
 
 /// The program of functions that were read to the end of their text, behind the line before this number.
-fn finish_draft(number: u64, draft: Draft) -> Result<Program, ScriptFault>
+fn finish_draft(alloc: Global, number: u64, draft: Draft) -> Result<Program, ScriptFault>
     ensures { Gives result (ended number draft.functions draft.marks draft.stage) }
 {
     let Draft {
@@ -56,7 +56,7 @@ fn finish_draft(number: u64, draft: Draft) -> Result<Program, ScriptFault>
             line: number,
             kind: Kind::End,
         }),
-        Stage::Between => match first_name_fault(functions.as_slice(), marks.as_slice())? {
+        Stage::Between => match first_name_fault(alloc, functions.as_slice(), marks.as_slice())? {
             Some((line, kind)) => Err(ScriptFault::Refused { line, kind }),
             None => Ok(Program { functions }),
         },
@@ -82,7 +82,7 @@ fn read_functions(alloc: Global, text: &str, first: u64) -> Result<Program, Scri
             kind: Kind::Truncated,
         });
     }
-    finish_draft(number, draft)
+    finish_draft(alloc, number, draft)
 }
 
 /// The program that a text spells; `first` is the number of the text's first line. The program is within all limits, its blocks

@@ -266,7 +266,7 @@ fn reads_lines_of_other_texts(rt: HostRuntime) -> Result<(), Fail> {
     assert!(rt; tokens.is_empty());
     let draft = Draft::new(alloc);
     assert!(rt; !draft.is_inside());
-    let fault = first_name_fault(draft.functions.as_slice(), draft.marks.as_slice())?;
+    let fault = first_name_fault(alloc, draft.functions.as_slice(), draft.marks.as_slice())?;
     assert_eq!(rt; fault, None);
     Ok(())
 }
