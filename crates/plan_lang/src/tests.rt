@@ -90,7 +90,7 @@ const ARITY_LINES: &str = "\
 const GOOD_LINES: &str = "\
     copy 2 3 18446744073709551615|start 4096 1048575.4095.4095.4095 4|append 4 7 , 8\"a\"|\
     cond 1 0 72057594037927935 \"\"|settled 1 2.18446744073709551615|submit 1 1f(-9223372036854775808)| catch  1 |\
-    # \tanything|repeat 200000\ncut\nend|seed 0";
+    # \tanything|repeat 200000\ncut\nend|seed 0|append 1 1,2,3,4,5,6,7,8 \"a\"";
 
 #[test]
 fn refuses_events(rt: HostRuntime) -> Result<(), Fail> {
@@ -117,7 +117,8 @@ const TEXTS: &str = "\
     2 truncated:setup 1 1 1 R;events|3 truncated:setup 1 1 1 R;events;# a|2 end:setup 1 1 1 R;|\
     3 end:setup 1 1 1 R;function f();|3 syntax:setup 1 1 1 R;function f();events;|\
     5 end:setup 1 1 1 R;events;repeat 2;cut;|4 syntax:setup 1 1 1 R;events;repeat 2;end;|\
-    2 range:setup 1 1 1 R;object \"\" 1;events;|2 syntax:setup 1 1 1 R;object x 1;events;";
+    2 range:setup 1 1 1 R;object \"\" 1;events;|2 syntax:setup 1 1 1 R;object x 1;events;|\
+    6 events:setup 1 1 1 R;events;repeat 200000;cut;end;cut;|6 events:setup 1 1 1 R;events;cut;repeat 200000;cut;end;";
 
 /// A text with line feeds.
 fn with_feeds(alloc: Global, text: &str) -> Result<String, Memory> {
@@ -164,6 +165,61 @@ fn keeps_the_limits(rt: HostRuntime) -> Result<(), Fail> {
     assert_eq!(rt; refusal(alloc, whole.as_str())?.as_str(), "");
     let long = long_text(alloc, 1, 1048556)?;
     assert_eq!(rt; refusal(alloc, long.as_str())?.as_str(), "0 length");
+    Ok(())
+}
+
+/// Why a text is refused that has a piece so often between two others, behind a line that sets it up.
+fn refusal_around(
+    alloc: Global,
+    front: &str,
+    piece: &str,
+    n: usize,
+    back: &str,
+) -> Result<String, Memory> {
+    let mut text = String::from_str(alloc, "setup 1 1 1 R\n")?;
+    text.push_str(front)?;
+    for _ in 0..n {
+        text.push_str(piece)?;
+    }
+    text.push_str(back)?;
+    refusal(alloc, text.as_str())
+}
+
+#[test]
+fn keeps_the_limits_of_sizes(rt: HostRuntime) -> Result<(), Fail> {
+    let alloc = rt.alloc();
+    for (front, most, back, want) in [
+        ("object \"", 64, "\" 1\nevents\n", "2 range"),
+        ("object \"x\" \"", 256, "\"\nevents\n", "2 range"),
+        ("events\nappend 1 7 \"", 256, "\"\n", "3 range"),
+        ("function ", 32, "()\nend\nevents\n", "2 range"),
+        ("function f(", 32, ")\nend\nevents\n", "2 range"),
+    ] {
+        assert_eq!(rt; refusal_around(alloc, front, "x", most, back)?.as_str(), "");
+        let past = refusal_around(alloc, front, "x", most + 1, back)?;
+        assert_eq!(rt; past.as_str(), want, "at {front}");
+    }
+    Ok(())
+}
+
+/// A text with this many functions.
+fn functions_text(alloc: Global, n: u32) -> Result<String, Memory> {
+    let mut text = String::from_str(alloc, "setup 1 1 1 R\n")?;
+    for i in 0..n {
+        let function = format!(in alloc; "function f{i}()\nend\n")?;
+        text.push_str(function.as_str())?;
+    }
+    text.push_str("events\n")?;
+    Ok(text)
+}
+
+#[test]
+fn keeps_the_limit_of_functions(rt: HostRuntime) -> Result<(), Fail> {
+    let alloc = rt.alloc();
+    let most = functions_text(alloc, 256)?;
+    assert_eq!(rt; refusal(alloc, most.as_str())?.as_str(), "");
+    let past = functions_text(alloc, 257)?;
+    assert_eq!(rt; refusal(alloc, past.as_str())?.as_str(), "514 range");
     Ok(())
 }
 
