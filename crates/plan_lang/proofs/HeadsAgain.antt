@@ -1,5 +1,5 @@
 -- The printed head of a plan is read again.
-use Rattle.std.proofs.Common.{◌≡◌, ℕ, zero, suc, ◌+◌, ◌<◌, ◌≤◌, ◌^◌, Bool, true, false, cond, List, [], ◌∷◌, ◌++◌, length, Option, Some, None, Result, Ok, Err, refl, sym, ap, ◌∙◌, subst, append_assoc, length-append, arith}
+use Rattle.std.proofs.Common.{◌≡◌, ℕ, ◌+◌, ◌<◌, ◌≤◌, ◌^◌, Bool, true, false, cond, List, [], ◌∷◌, ◌++◌, length, Option, Some, None, Result, Ok, Err, refl, sym, ap, ◌∙◌, subst, append_assoc, arith}
 use Rattle.std.specs.Prelude.{◌&&◌, option_and_then, bytes_eq, codes, nat_le, flat_map}
 use Rattle.std.specs.List.{list_all}
 use Rattle.std.specs.Fmt.{decimal}
@@ -33,19 +33,17 @@ use Rattle.script_lang.specs.Functions.{draft_line, stage_line, take_line, begun
 use Rattle.script_lang.specs.Lines.{lines_in, line_of, spelled}
 use Rattle.script_lang.specs.Printed.{function_text}
 use Rattle.script_lang.specs.Statements.{both, map_rated, fine_if, alone, head_of, value_at}
-use Rattle.script_lang.specs.Texts.{draft_from, scan, goes_on as draft_goes_on}
+use Rattle.script_lang.specs.Texts.{draft_from, goes_on as draft_goes_on}
 use Rattle.script_lang.specs.Tokens.{word_token, key_of, tokens_in}
 use Rattle.script_lang.proofs.GoodDrafts.{GoodFunction}
 use Rattle.script_lang.proofs.GoodStmts.{AllOf}
 use Rattle.script_lang.proofs.ProgramAgain.{draft, scan_all}
 use Rattle.script_lang.proofs.RelexedLines.{no_feed, feed_append, feed_decimal, feed_int, feed_quoted}
-use Rattle.plan_lang.specs.declared.fault.PlanFault.{PlanFault}
 use Rattle.plan_lang.specs.declared.heads.Due.{Due}
 use Rattle.plan_lang.specs.declared.heads.Due.TheVariants as due
 use Rattle.plan_lang.specs.declared.heads.Head.{Head}
 use Rattle.plan_lang.specs.declared.heads.Lead.TheVariants as lead
-use Rattle.plan_lang.specs.Fields.{mode_of}
-use Rattle.plan_lang.specs.Heads.{checked, setup_made, newer_of, setup_of, object_of, lead_of, lead_rest, led_line, with_setup, with_object, with_draft, between_line, due_line, head_line, no_head, has_ended}
+use Rattle.plan_lang.specs.Heads.{checked, setup_made, setup_of, object_of, lead_of, lead_rest, led_line, with_setup, with_object, with_draft, between_line, due_line, head_line, no_head, has_ended}
 use Rattle.plan_lang.specs.Printed.{newer_text, setup_text, valued_line, head_text}
 use Rattle.plan_lang.specs.Texts.{goes_on, spelled_line}
 use Rattle.plan_lang.proofs.FieldsAgain.{value_back}

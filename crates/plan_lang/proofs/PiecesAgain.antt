@@ -1,5 +1,5 @@
 -- What events are printed of: ASCII without line feeds, and quoted texts.
-use Rattle.std.proofs.Common.{◌≡◌, ℕ, zero, suc, ◌+◌, ◌<◌, ◌≤◌, ◌/◌, ◌%◌, Bool, true, false, cond, eqb, leb, ltb, List, [], ◌∷◌, ◌++◌, length, map, Option, Some, None, refl, sym, ap, ◌∙◌, subst, arith, pos, negsuc, ℤ}
+use Rattle.std.proofs.Common.{◌≡◌, ℕ, zero, suc, ◌+◌, ◌<◌, ◌/◌, ◌%◌, Bool, true, false, cond, eqb, leb, ltb, List, [], ◌∷◌, ◌++◌, length, refl, arith, pos, negsuc, ℤ}
 use Rattle.std.specs.Prelude.{◌&&◌, ◌||◌, not, bytes_eq, codes, nat_lt, flat_map}
 use Rattle.std.specs.List.{list_all, list_any}
 use Rattle.std.specs.Fmt.{decimal, signed_decimal, digits, digits_onto, digit_glyph}
@@ -19,7 +19,7 @@ use Rattle.boki_model.specs.Plans.{names}
 use Rattle.script_lang.specs.Printed.{behind_comma, listed}
 use Rattle.script_lang.proofs.GoodStmts.{AllOf}
 use Rattle.script_lang.proofs.RelexedLines.{no_feed, feed_append, feed_quoted}
-use Rattle.plan_lang.specs.Printed.{name_at, call_text, tag_text, behind_tag, tags_text, one_text, pair_text, triple_text, event_text}
+use Rattle.plan_lang.specs.Printed.{name_at, call_text, behind_tag, tags_text, one_text, pair_text, triple_text, event_text}
 use Rattle.plan_lang.proofs.GoodFields.{both_true, split_true}
 
 -- ASCII without line feeds

@@ -1,6 +1,6 @@
 -- The printed text of a plan is read again, line by line.
-use Rattle.std.proofs.Common.{◌≡◌, ℕ, zero, suc, ◌+◌, ◌*◌, ◌<◌, ◌≤◌, ◌^◌, Bool, true, false, cond, List, [], ◌∷◌, ◌++◌, length, map, get_or, Option, Some, None, Result, Ok, Err, refl, sym, ap, ◌∙◌, subst, append_assoc, length-append, arith}
-use Rattle.std.specs.Prelude.{◌&&◌, option_and_then, IfOk, bytes_eq, codes, nat_le, nat_lt, flat_map}
+use Rattle.std.proofs.Common.{◌≡◌, ℕ, ◌+◌, ◌*◌, ◌<◌, ◌≤◌, ◌^◌, Bool, true, false, cond, List, [], ◌∷◌, ◌++◌, length, map, get_or, Option, Some, None, Result, Ok, Err, refl, sym, ap, ◌∙◌, subst, append_assoc, arith}
+use Rattle.std.specs.Prelude.{◌&&◌, option_and_then, bytes_eq, codes, nat_le, nat_lt, flat_map}
 use Rattle.std.specs.List.{list_all}
 use Rattle.std.specs.Fmt.{decimal}
 use Rattle.std.proofs.lemmas.Bool.Decides.{nat_tests}
@@ -17,7 +17,7 @@ use Rattle.boki_types.specs.declared.plan.Plan.{Plan}
 use Rattle.boki_types.specs.declared.plan.Setup.{Setup}
 use Rattle.boki_types.specs.declared.program.Function.{Function}
 use Rattle.boki_model.specs.Bodies.{is_identifier}
-use Rattle.boki_model.specs.Plans.{from_to, is_setup, are_objects, is_program, is_event, is_function, is_item, names, distinct, weight, weights, is_plan}
+use Rattle.boki_model.specs.Plans.{from_to, is_setup, are_objects, is_program, is_event, is_function, is_item, names, distinct, weight, weights}
 use Rattle.script_lang.specs.declared.lines.Line.TheVariants as l
 use Rattle.script_lang.specs.declared.rated.Rated.{Rated}
 use Rattle.script_lang.specs.declared.rated.Rated.TheVariants as r
@@ -33,7 +33,7 @@ use Rattle.script_lang.proofs.GoodDrafts.{GoodFunction}
 use Rattle.script_lang.proofs.GoodStmts.{AllOf}
 use Rattle.script_lang.proofs.ProgramAgain.{functions_free}
 use Rattle.script_lang.proofs.Relexed.{word_lexed}
-use Rattle.script_lang.proofs.RelexedLines.{no_feed, feed_append}
+use Rattle.script_lang.proofs.RelexedLines.{no_feed}
 use Rattle.plan_lang.specs.declared.bodies.Block.{Block}
 use Rattle.plan_lang.specs.declared.bodies.Body.{Body}
 use Rattle.plan_lang.specs.declared.drafts.PlanDraft.{PlanDraft}
@@ -41,21 +41,21 @@ use Rattle.plan_lang.specs.declared.events.Entry.{Entry}
 use Rattle.plan_lang.specs.declared.fault.PlanFault.{PlanFault}
 use Rattle.plan_lang.specs.declared.heads.Due.TheVariants as due
 use Rattle.plan_lang.specs.declared.heads.Head.{Head}
-use Rattle.plan_lang.specs.Bodies.{times_of, opened, closed, counted, whole as body, within, placed, added, heard, worded_line, body_line, no_body}
-use Rattle.plan_lang.specs.Events.{verb_of, plain_by, plain, callless, worded, entry_of}
+use Rattle.plan_lang.specs.Bodies.{times_of, opened, counted, whole as body, within, added, heard, body_line, no_body}
+use Rattle.plan_lang.specs.Events.{verb_of, callless, worded, entry_of}
 use Rattle.plan_lang.specs.Heads.{head_line, no_head, has_ended, objects_fault}
 use Rattle.plan_lang.specs.Printed.{event_text, inner_line, item_text, head_text, plan_text}
 use Rattle.plan_lang.specs.Texts.{scan, refuse, with_head, with_body, plan_by, plan_line, no_plan, head_fault, plan_made, plan_named, stopped, plan_finished, plan_in, plan_of}
-use Rattle.plan_lang.proofs.EventsAgain.{Again, printed_event, identifiers}
-use Rattle.plan_lang.proofs.GoodFields.{both_true, split_true}
-use Rattle.plan_lang.proofs.GoodPlans.{object_test, GoodHead, GoodPlan, FoundGood, lines_good, no_plan_good, none_or, few_functions, read_plan}
+use Rattle.plan_lang.proofs.EventsAgain.{printed_event, identifiers}
+use Rattle.plan_lang.proofs.GoodFields.{split_true}
+use Rattle.plan_lang.proofs.GoodPlans.{object_test, GoodHead, FoundGood, lines_good, no_plan_good, none_or, few_functions, read_plan}
 use Rattle.plan_lang.proofs.HeadsAgain.{headed, events_close, head_again, not_ended}
 use Rattle.plan_lang.proofs.PiecesAgain.{event_feed, plain_decimal, plain_feed}
 use Rattle.plan_lang.proofs.PlanLemmas.{plan_short}
 use Rattle.plan_lang.proofs.ScansAgain.{plain_scan, piece_then, tokens_read, Widens, widened, within_limits}
 use Rattle.plan_lang.proofs.TextsPlanned.{plan_texts}
 use Rattle.plan_lang.proofs.TextsPrinted.{plan_utf8}
-use Rattle.plan_lang.proofs.TokensAgain.{Cuts, whole, number_piece, behind_word}
+use Rattle.plan_lang.proofs.TokensAgain.{whole, number_piece, behind_word}
 
 -- The tokens of an event's line.
 record EventRead (setup : Setup) (fs : List Function) (x : Event) : Type 0 where

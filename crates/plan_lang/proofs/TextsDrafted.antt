@@ -29,7 +29,7 @@ use Rattle.script_lang.specs.Statements.{◌>>=◌, map_rated, both, need, alone
 use Rattle.script_lang.specs.Stream.{key_first}
 use Rattle.script_lang.proofs.GoodParts.{GoodRated}
 use Rattle.script_lang.proofs.GoodStmts.{AllOf, inner, bind_some, both_good, map_good, alone_good}
-use Rattle.plan_lang.proofs.TextsRead.{TextTokens, ExprTexts, SecondTexts, PairTexts, Any, any_rated, expr_texts, need_texts, name_texts, named_texts, pair_texts, several_texts, few_texts, applied_texts, second_of}
+use Rattle.plan_lang.proofs.TextsRead.{TextTokens, ExprTexts, SecondTexts, PairTexts, any_rated, expr_texts, need_texts, name_texts, named_texts, pair_texts, several_texts, few_texts, applied_texts}
 
 abbrev pub StmtTexts : (List ℕ → Type 0) → Stmt → Type 0
 StmtTexts T l = AllOf (ExprTexts T) (expressions l)

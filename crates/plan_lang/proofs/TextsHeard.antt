@@ -1,7 +1,6 @@
 -- The texts of values, objects, calls and events are among those of the tokens of their lines.
-use Rattle.std.proofs.Common.{◌≡◌, ℕ, zero, suc, ◌+◌, ◌-◌, ◌^◌, Bool, true, false, cond, ltb, leb, List, [], ◌∷◌, ◌++◌, length, Option, Some, None, refl, subst}
+use Rattle.std.proofs.Common.{◌≡◌, ℕ, ◌-◌, ◌^◌, Bool, true, false, cond, List, [], ◌∷◌, length, Option, Some, None, refl, subst}
 use Rattle.std.specs.Prelude.{option_and_then, bytes_eq, codes, nat_le, nat_lt, neg_ℤ, pos}
-use Rattle.lb_base.specs.declared.value.Mode.{Mode}
 use Rattle.lb_base.specs.declared.value.Tag.{Tag}
 use Rattle.lb_base.specs.declared.value.Value.{Value}
 use Rattle.lb_base.specs.declared.value.Value.TheVariants as v
@@ -12,22 +11,21 @@ use Rattle.boki_types.specs.declared.program.Function.{Function}
 use Rattle.boki_model.specs.Plans.{from_to}
 use Rattle.script_lang.specs.declared.rated.Rated.{Rated}
 use Rattle.script_lang.specs.declared.rated.Rated.TheVariants as r
-use Rattle.script_lang.specs.declared.several.Several.{Several}
 use Rattle.script_lang.specs.declared.token.Key.TheVariants as k
 use Rattle.script_lang.specs.declared.token.Token.{Token}
 use Rattle.script_lang.specs.declared.token.Token.TheVariants as t
 use Rattle.script_lang.specs.Expressions.{is_zero}
-use Rattle.script_lang.specs.Statements.{Reader, ◌>>=◌, map_rated, both, fine_if, alone, numeral_at, text_at, positive_value, negative_value, minus_value, value_at, several, few, applied, call_at}
+use Rattle.script_lang.specs.Statements.{◌>>=◌, map_rated, both, fine_if, alone, text_at, positive_value, negative_value, minus_value, value_at, several, few, applied, call_at}
 use Rattle.script_lang.proofs.GoodParts.{GoodRated}
 use Rattle.script_lang.proofs.GoodStmts.{AllOf, inner, bind_some, both_good, map_good, alone_good}
 use Rattle.plan_lang.specs.declared.events.Entry.{Entry}
 use Rattle.plan_lang.specs.declared.verb.Verb.{Verb}
 use Rattle.plan_lang.specs.declared.verb.Verb.TheVariants as w
-use Rattle.plan_lang.specs.Events.{verb_of, engine_made, attempt_made, tag_made, engine_at, attempt_at, request_at, engine_of, attempt_of, tag_of, copy_of, start_of, switch_of, append_of, cond_of, tail_of, settled_of, set_aux_of, get_aux_of, seed_of, submitted, submit_of, callless, plain, plain_of, plain_by, worded, entry_of}
+use Rattle.plan_lang.specs.Events.{verb_of, engine_at, attempt_at, request_at, engine_of, attempt_of, tag_of, append_of, cond_of, set_aux_of, submitted, submit_of, callless, plain, plain_of, plain_by, worded}
 use Rattle.plan_lang.specs.Fields.{number_by, number_at, word_at, mode_at, short_at, path_at, sent_at, tag_by, tag_at, tags_at}
 use Rattle.plan_lang.specs.Heads.{object_of}
 use Rattle.plan_lang.proofs.PiecesAgain.{ValueTexts, EventTexts}
-use Rattle.plan_lang.proofs.TextsRead.{TextTokens, Holds, Reads, Any, any_rated, along, several_texts, few_texts, applied_texts}
+use Rattle.plan_lang.proofs.TextsRead.{TextTokens, Holds, Reads, Any, any_rated, along, several_texts, applied_texts}
 
 -- Values.
 int_by : (T : List ℕ → Type 0) (x : Value) (b : Bool) → ValueTexts T x → GoodRated (ValueTexts T) (cond b (r.Fine x) r.Wide)

@@ -1,5 +1,5 @@
 -- The quoted texts among the tokens of UTF-8 are UTF-8.
-use Rattle.std.proofs.Common.{◌≡◌, ℕ, zero, suc, ◌+◌, ◌≤◌, Bool, true, false, cond, eqb, ltb, List, [], ◌∷◌, ◌++◌, length, take, Option, Some, None, refl, sym, subst, length-append, arith}
+use Rattle.std.proofs.Common.{◌≡◌, ℕ, zero, suc, ◌+◌, Bool, true, false, cond, eqb, ltb, List, [], ◌∷◌, ◌++◌, length, take, Option, Some, None, refl, sym, subst}
 use Rattle.std.specs.Prelude.{IfSome, ◌&&◌, bytes_eq, codes, slice_index}
 use Rattle.std.specs.List.{list_any}
 use Rattle.std.specs.Char.{is_ascii_digit}
@@ -8,12 +8,10 @@ use Rattle.std.proofs.lemmas.Str.{IsUtf8-take, IsCharBoundary-at_seam}
 use Rattle.lb_base.specs.Numeral.{is_numeral}
 use Rattle.lb_base.specs.Quoted.{quoted_at, quoted}
 use Rattle.lb_base.proofs.QuotedLaws.{quoted-one_spelling}
-use Rattle.script_lang.specs.declared.lines.Line.{Line}
 use Rattle.script_lang.specs.declared.lines.Line.TheVariants as l
 use Rattle.script_lang.specs.declared.spans.Class.TheVariants.{Figure, Word, Space}
 use Rattle.script_lang.specs.declared.token.Key.{Key}
 use Rattle.script_lang.specs.declared.token.Token.{Token}
-use Rattle.script_lang.specs.declared.token.Token.TheVariants as t
 use Rattle.script_lang.specs.Lines.{line_of, line_behind, spelled}
 use Rattle.script_lang.specs.Tokens.{is_letter, span, number, with_rest, quoted_token, key_of, named_by, word_token, double, single, symbol_by, token_at, with_token, lex, lex_on, lex_by, tokens_in}
 use Rattle.script_lang.proofs.FrontLemmas.{behind_span, text_behind}

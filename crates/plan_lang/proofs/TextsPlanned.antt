@@ -1,6 +1,6 @@
 -- The texts of a plan that is read from UTF-8 are UTF-8 where they are quoted.
-use Rattle.std.proofs.Common.{◌≡◌, ℕ, ◌+◌, ◌*◌, Bool, true, false, cond, List, [], ◌∷◌, ◌++◌, length, drop, Option, Some, None, Result, Ok, Err, refl, subst}
-use Rattle.std.specs.Prelude.{IfOk, bytes_eq, codes, nat_le, nat_lt}
+use Rattle.std.proofs.Common.{◌≡◌, ℕ, ◌+◌, Bool, true, false, cond, List, [], ◌∷◌, length, drop, Option, Some, None, Result, Ok, Err, refl, subst}
+use Rattle.std.specs.Prelude.{IfOk, bytes_eq, codes, nat_lt}
 use Rattle.std.specs.Str.{is_utf8, IsUtf8}
 use Rattle.std.proofs.lemmas.Str.{IsUtf8-from_is_utf8}
 use Rattle.lb_base.specs.declared.value.Value.{Value}
@@ -34,10 +34,10 @@ use Rattle.plan_lang.specs.declared.heads.Due.TheVariants as due
 use Rattle.plan_lang.specs.declared.heads.Head.{Head}
 use Rattle.plan_lang.specs.declared.heads.Lead.{Lead}
 use Rattle.plan_lang.specs.declared.heads.Lead.TheVariants as lead
-use Rattle.plan_lang.specs.Bodies.{times_of, opened, opened_by, counted, closed_by, closed, added, placed, heard, body_line, no_body}
+use Rattle.plan_lang.specs.Bodies.{times_of, opened, opened_by, counted, closed_by, closed, added, placed, heard, body_line}
 use Rattle.plan_lang.specs.Events.{worded}
 use Rattle.plan_lang.specs.Heads.{object_of, setup_of, with_setup, with_object, with_draft, closed_by as head_closed, object_line, led_line, lead_of, lead_rest, between_line, due_line, head_line, no_head, has_ended}
-use Rattle.plan_lang.specs.Texts.{Takes, line_by, spelled_line, read_line, whole_line, goes_on, lines_from, scan, with_head, with_body, plan_by, plan_line, no_plan, head_fault, plan_made, plan_named, stopped, plan_finished, plan_in, plan_of, refuse}
+use Rattle.plan_lang.specs.Texts.{Takes, line_by, spelled_line, read_line, whole_line, goes_on, lines_from, scan, with_head, with_body, plan_by, plan_line, no_plan, head_fault, plan_named, stopped, plan_finished, plan_in, plan_of, refuse}
 use Rattle.plan_lang.proofs.PiecesAgain.{EventTexts}
 use Rattle.plan_lang.proofs.TextsDrafted.{FunctionTexts, DraftTexts, all_more, stage_texts, no_draft_texts, drop_texts}
 use Rattle.plan_lang.proofs.TextsHeard.{ObjectTexts, object_texts, WholeHolds, EntryTexts, worded_texts}

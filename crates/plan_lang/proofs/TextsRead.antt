@@ -1,36 +1,30 @@
 -- The texts of what is read are among those of its tokens.
-use Rattle.std.proofs.Common.{◌≡◌, ℕ, zero, suc, ◌+◌, ◌^◌, Bool, true, false, cond, ltb, leb, List, [], ◌∷◌, ◌++◌, length, drop, Option, Some, None, refl, sym, subst}
-use Rattle.std.specs.Prelude.{bytes_eq, codes, option_map}
+use Rattle.std.proofs.Common.{◌≡◌, ℕ, zero, suc, ◌+◌, ◌^◌, Bool, true, false, cond, ltb, leb, List, [], ◌∷◌, ◌++◌, length, Option, Some, None, refl, sym, subst}
+use Rattle.std.specs.Prelude.{option_map}
 use denote.Hole.Carrier.{hidden}
 use Rattle.boki_types.specs.declared.expr.BinOp.{BinOp}
 use Rattle.boki_types.specs.declared.expr.Expr.{Expr, more_of-Expr, end_of-Expr}
 use Rattle.boki_types.specs.declared.expr.Expr.TheVariants as e
 use Rattle.boki_types.specs.declared.expr.Expr.TheBlock.{shape-the_row-Expr-0, hidden-the_row-Expr-0}
-use Rattle.boki_types.specs.declared.program.Stmt.{Stmt}
-use Rattle.boki_types.specs.declared.program.Stmt.TheVariants as s
-use Rattle.boki_model.specs.Plans.{expressions}
-use Rattle.boki_model.specs.Script.{seconds, sides}
 use Rattle.script_lang.specs.declared.parts.Part.{Part}
 use Rattle.script_lang.specs.declared.parts.Part.TheVariants.{Tree, Wide, Deep}
 use Rattle.script_lang.specs.declared.parts.Wrapper.{Wrapper}
 use Rattle.script_lang.specs.declared.parts.Wrapper.TheVariants as w
 use Rattle.script_lang.specs.declared.rated.Rated.{Rated}
 use Rattle.script_lang.specs.declared.rated.Rated.TheVariants as r
-use Rattle.script_lang.specs.declared.setters.Setter.{Setter}
 use Rattle.script_lang.specs.declared.setters.Setter.TheVariants as g
 use Rattle.script_lang.specs.declared.several.Several.{Several}
 use Rattle.script_lang.specs.declared.token.Key.{Key}
-use Rattle.script_lang.specs.declared.token.Key.TheVariants as k
 use Rattle.script_lang.specs.declared.token.Mark.{Mark}
 use Rattle.script_lang.specs.declared.token.Mark.TheVariants as m
 use Rattle.script_lang.specs.declared.token.Token.{Token}
 use Rattle.script_lang.specs.declared.token.Token.TheVariants as t
 use Rattle.script_lang.specs.Expressions.{leaf, two, inside, wrap, negated, positive, negative, rated, expr_at}
 use Rattle.script_lang.specs.Grammar.{Spells, number, signed, text, variable, nothing, parens, text_of, len_of, negation, binary}
-use Rattle.script_lang.specs.Statements.{Reader, ◌>>=◌, map_rated, both, fine_if, need, needed, alone, name_at, named_at, pair_at, cons, one_more, more_by, many_on, many, several, few, closed_many, listed_by, listed, applied, setter_of, setter_by, setter_at, set_value, set_spawn, make_commit, set_commit, set_by, let_of, two_of, one_of, group_of, all_of, keyed, stmt_of}
-use Rattle.script_lang.specs.Stream.{taken, same_mark, key_first}
+use Rattle.script_lang.specs.Statements.{Reader, ◌>>=◌, both, fine_if, need, needed, name_at, named_at, pair_at, cons, one_more, more_by, many_on, many, several, few, closed_many, listed_by, listed, applied}
+use Rattle.script_lang.specs.Stream.{taken, same_mark}
 use Rattle.script_lang.proofs.GoodParts.{GoodRated}
-use Rattle.script_lang.proofs.GoodStmts.{AllOf, inner, bind_some, both_good, map_good, alone_good}
+use Rattle.script_lang.proofs.GoodStmts.{AllOf, inner, bind_some, both_good}
 use Rattle.script_lang.proofs.GrammarSpelled.{read_is_spelled}
 
 abbrev pub TextToken : (List ℕ → Type 0) → Token → Type 0
