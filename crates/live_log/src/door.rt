@@ -47,7 +47,9 @@ pub struct RealDoor {
 
 impl RealDoor {
     /// A door that has refused nothing.
-    pub fn new() -> RealDoor {
+    pub fn new() -> RealDoor
+        ensures { result.refused ≡ 0 }
+    {
         RealDoor { refused: 0 }
     }
 }

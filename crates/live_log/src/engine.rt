@@ -149,13 +149,14 @@ impl<J: Naming> LiveEngine<J> {
     ///
     /// The list that is seen begins with what the engine had seen, what it was told and its own appends, so the position is no less
     /// than any number that an earlier call of the engine answered. `Refused` comes only where the door's refusals rose in this call,
-    /// and leaves the engine as it was. After `Memory` the position is between the old one and the length of the list that was seen.
+    /// and leaves the engine as it was. After `Memory` the list was seen, and the position is between the old one and its length.
     pub fn catch_up<D: Door>(&mut self, door: &mut D) -> Result<u64, LiveFault>
         ensures counted { D.refusals door.old ≤ D.refusals door.new }
         ensures ok { IfOk result (λ n. (n ≡ self.new.at) × (self.new.at ≡ length self.new.seen) × IsPrefix self.old.known self.new.seen × (self.new.known ≡ self.new.seen)) }
         ensures covers { IfOk result (λ n. length self.old.known ≤ n) }
         ensures own { IfOk result (λ _. EachStands self.new.seen self.new.mine) }
         ensures refused { IfErr result (λ e. e ≡ LiveFault.Refused → Rose (D.refusals door.old) (D.refusals door.new) × (self.new ≡ self.old)) }
+        ensures memory { IfErr result (λ e. e ≡ LiveFault.Memory → IsPrefix self.old.known self.new.seen × (self.new.known ≡ self.new.seen)) }
         ensures known { IsPrefix self.old.known self.new.known }
         ensures grows { IsPrefix self.old.seen self.new.seen × (self.old.at ≤ self.new.at) × (self.new.at ≤ length self.new.seen) }
         ensures same { (self.new.number ≡ self.old.number) × (self.new.mine ≡ self.old.mine) }
