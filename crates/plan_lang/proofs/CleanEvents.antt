@@ -1,9 +1,7 @@
 -- The texts of an event that is read from a text are spelled in UTF-8.
 use Rattle.std.proofs.Common.{◌≡◌, ℕ, ◌-◌, ◌^◌, Bool, true, false, cond, List, ◌∷◌, length, Option, Some, None, refl}
 use Rattle.std.specs.Prelude.{option_and_then, bytes_eq, codes, nat_le}
-use Rattle.std.specs.Str.{is_utf8}
 use Rattle.lb_base.specs.declared.value.Tag.{Tag}
-use Rattle.lb_base.specs.Quoted.{quoted}
 use Rattle.boki_types.specs.declared.event.Event.{Event}
 use Rattle.boki_types.specs.declared.event.Event.TheVariants as e
 use Rattle.boki_types.specs.declared.plan.Setup.{Setup}
@@ -13,21 +11,21 @@ use Rattle.script_lang.specs.declared.rated.Rated.TheVariants as r
 use Rattle.script_lang.specs.declared.several.Several.{Several}
 use Rattle.script_lang.specs.declared.token.Token.{Token}
 use Rattle.script_lang.specs.declared.token.Token.TheVariants as t
-use Rattle.script_lang.specs.Statements.{both, alone, several, few, call_at}
+use Rattle.script_lang.specs.Statements.{both, several, few, call_at}
 use Rattle.plan_lang.specs.declared.events.Entry.{Entry}
 use Rattle.plan_lang.specs.declared.verb.Verb.{Verb}
 use Rattle.plan_lang.specs.declared.verb.Verb.TheVariants as w
 use Rattle.plan_lang.specs.Events.{engine_at, attempt_at, request_at, engine_of, attempt_of, tag_of, append_of, cond_of, set_aux_of, submitted, submit_of, callless, plain, plain_of, plain_by, verb_of, worded}
 use Rattle.plan_lang.specs.Fields.{number_by, number_at, word_at, mode_at, short_at, path_at, sent_at, tag_by, tag_at, tags_at}
-use Rattle.plan_lang.proofs.CleanReads.{are_clean_values, Leaves, LeavesMany, Reads, any_fine, bind_clean, bind_any, made_clean, last_clean, several_clean, call_test, call_clean}
-use Rattle.plan_lang.proofs.GoodFields.{Whole, fine_good, map_good, split_true, pair_test, both_good, alone_good, bind_good}
-use Rattle.plan_lang.proofs.Utf8Tokens.{are_clean}
+use Rattle.plan_lang.proofs.CleanReads.{are_clean_values, Leaves, LeavesMany, Reads, bind_clean, bind_any, made_clean, last_clean, several_clean, call_test, call_clean}
+use Rattle.plan_lang.proofs.GoodFields.{any_fine, Whole, fine_good, map_good, split_true, pair_test, both_good, alone_good, bind_good}
+use Rattle.plan_lang.proofs.Utf8Tokens.{is_clean_text, are_clean}
 
 abbrev pub is_clean_event : Event → Bool
 is_clean_event (e.Submit n q f args) = are_clean_values args
-is_clean_event (e.Append n tags text) = is_utf8 (quoted text)
-is_clean_event (e.Cond n place tags text) = is_utf8 (quoted text)
-is_clean_event (e.SetAux n seq text) = is_utf8 (quoted text)
+is_clean_event (e.Append n tags text) = is_clean_text text
+is_clean_event (e.Cond n place tags text) = is_clean_text text
+is_clean_event (e.SetAux n seq text) = is_clean_text text
 is_clean_event _ = true
 
 -- Fields.
@@ -46,12 +44,9 @@ tags_by (Some tags) h = (any_fine (few tags.0), h.1)
 tags_clean : Reads (λ _. true) tags_at
 tags_clean ts h = tags_by (several tag_at ts) (several_clean (λ _. true) tag_at tag_clean ts h)
 
-abbrev text_test : List ℕ → Bool
-text_test text = is_utf8 (quoted text)
-
-short_clean : Reads text_test short_at
+short_clean : Reads is_clean_text short_at
 short_clean (t.Text x ∷ ts) h =
-    let s = split_true (text_test x) (are_clean ts) h in (fine_good text_test (nat_le (length x) 256) x (λ _. s.0), s.1)
+    let s = split_true (is_clean_text x) (are_clean ts) h in (fine_good is_clean_text (nat_le (length x) 256) x (λ _. s.0), s.1)
 short_clean _ h = tt
 
 -- Events.
@@ -74,23 +69,23 @@ append_clean : (setup : Setup) (ts : List Token) → are_clean ts ≡ true → C
 append_clean setup ts h =
     bind_clean (λ _. true) is_clean_event (engine_at setup ts) _ (number_clean 1 setup.engines ts h) (λ x _ c.
     bind_clean (λ _. true) is_clean_event (tags_at x.1) _ (tags_clean x.1 c) (λ y _ d.
-    bind_clean text_test is_clean_event (short_at y.1) _ (short_clean y.1 d) (λ z g _.
-    last_clean text_test is_clean_event (λ p. e.Append p.0.0 p.0.1 p.1) (both x.0 y.0) z.0 z.1 (λ p k. k) g)))
+    bind_clean is_clean_text is_clean_event (short_at y.1) _ (short_clean y.1 d) (λ z g _.
+    last_clean is_clean_text is_clean_event (λ p. e.Append p.0.0 p.0.1 p.1) (both x.0 y.0) z.0 z.1 (λ p k. k) g)))
 
 cond_clean : (setup : Setup) (ts : List Token) → are_clean ts ≡ true → Clean (cond_of setup ts)
 cond_clean setup ts h =
     bind_clean (λ _. true) is_clean_event (engine_at setup ts) _ (number_clean 1 setup.engines ts h) (λ x _ c.
     bind_clean (λ _. true) is_clean_event (word_at x.1) _ (number_clean 0 (2 ^ 64 - 1) x.1 c) (λ y _ d.
     bind_clean (λ _. true) is_clean_event (tags_at y.1) _ (tags_clean y.1 d) (λ z _ i.
-    bind_clean text_test is_clean_event (short_at z.1) _ (short_clean z.1 i) (λ u g _.
-    last_clean (pair_test (λ _. true) text_test) is_clean_event (λ p. e.Cond p.0.0 p.0.1 p.1.0 p.1.1) (both x.0 y.0) (both z.0 u.0) u.1 (λ p k. k) (both_good (λ _. true) text_test z.0 u.0 (any_fine z.0) g)))))
+    bind_clean is_clean_text is_clean_event (short_at z.1) _ (short_clean z.1 i) (λ u g _.
+    last_clean (pair_test (λ _. true) is_clean_text) is_clean_event (λ p. e.Cond p.0.0 p.0.1 p.1.0 p.1.1) (both x.0 y.0) (both z.0 u.0) u.1 (λ p k. k) (both_good (λ _. true) is_clean_text z.0 u.0 (any_fine z.0) g)))))
 
 set_aux_clean : (setup : Setup) (ts : List Token) → are_clean ts ≡ true → Clean (set_aux_of setup ts)
 set_aux_clean setup ts h =
     bind_clean (λ _. true) is_clean_event (engine_at setup ts) _ (number_clean 1 setup.engines ts h) (λ x _ c.
     bind_clean (λ _. true) is_clean_event (word_at x.1) _ (number_clean 0 (2 ^ 64 - 1) x.1 c) (λ y _ d.
-    bind_clean text_test is_clean_event (short_at y.1) _ (short_clean y.1 d) (λ z g _.
-    last_clean text_test is_clean_event (λ p. e.SetAux p.0.0 (record { 0 = p.0.1 }) p.1) (both x.0 y.0) z.0 z.1 (λ p k. k) g)))
+    bind_clean is_clean_text is_clean_event (short_at y.1) _ (short_clean y.1 d) (λ z g _.
+    last_clean is_clean_text is_clean_event (λ p. e.SetAux p.0.0 (record { 0 = p.0.1 }) p.1) (both x.0 y.0) z.0 z.1 (λ p k. k) g)))
 
 plain_clean : (setup : Setup) (verb : Verb) (ts : List Token) → are_clean ts ≡ true → Clean (plain_of setup verb ts)
 plain_clean setup w.Copy ts h =

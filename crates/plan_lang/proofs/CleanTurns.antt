@@ -1,17 +1,13 @@
 -- The values of a turn that is read from a text are spelled in UTF-8.
-use Rattle.std.proofs.Common.{◌≡◌, ℕ, Bool, true, false, cond, List, ◌∷◌, Option, Some, None, refl}
-use Rattle.std.specs.Prelude.{option_and_then, bytes_eq, codes}
-use Rattle.std.specs.List.{list_all}
-use Rattle.lb_base.specs.declared.value.Value.{Value}
+use Rattle.std.proofs.Common.{◌≡◌, Bool, true, false, cond, List, ◌∷◌, None, refl}
+use Rattle.std.specs.Prelude.{bytes_eq, codes}
 use Rattle.boki_types.specs.declared.program.Function.{Function}
 use Rattle.boki_types.specs.declared.turn.Turn.{Turn}
 use Rattle.boki_types.specs.declared.turn.Turn.TheVariants as u
-use Rattle.script_lang.specs.declared.rated.Rated.{Rated}
-use Rattle.script_lang.specs.declared.several.Several.{Several}
 use Rattle.script_lang.specs.declared.token.Key.TheVariants as k
 use Rattle.script_lang.specs.declared.token.Token.{Token}
 use Rattle.script_lang.specs.declared.token.Token.TheVariants as t
-use Rattle.script_lang.specs.Statements.{both, map_rated, alone, value_at, applied, call_at}
+use Rattle.script_lang.specs.Statements.{both, call_at}
 use Rattle.plan_lang.specs.declared.turns.TurnEntry.{TurnEntry}
 use Rattle.plan_lang.specs.Fields.{number_by, number_at, path_at}
 use Rattle.plan_lang.specs.Turns.{called, submit_of, callless, go_of, end_of, turn_behind, turn_of}
@@ -23,7 +19,6 @@ abbrev pub is_clean_turn : Turn → Bool
 is_clean_turn (u.Submit q f args) = are_clean_values args
 is_clean_turn _ = true
 
--- Turns.
 abbrev clean_entry : TurnEntry → Bool
 clean_entry x = is_clean_turn x.turn
 

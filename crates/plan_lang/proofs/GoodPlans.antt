@@ -46,7 +46,7 @@ use Rattle.plan_lang.specs.Events.{worded}
 use Rattle.plan_lang.specs.Fields.{number_at, mode_at}
 use Rattle.plan_lang.specs.Heads.{newer_of, checked, setup_made, setup_behind, setup_of, object_of, with_setup, with_object, with_draft, closed_by as head_closed, object_line, led_line, lead_of, lead_rest, between_line, due_line, head_line, no_head, has_ended, objects_fault}
 use Rattle.plan_lang.specs.Texts.{scan, with_head, with_body, plan_by, plan_line, no_plan, head_fault, plan_made, plan_named, stopped, plan_finished, plan_in, plan_of, refuse}
-use Rattle.plan_lang.proofs.GoodFields.{Fine, At, Whole, fine_good, both_true, split_true, pair_test, both_good, alone_good, bind_good, number_good, ModeGood, mode_good}
+use Rattle.plan_lang.proofs.GoodFields.{Fine, any_fine, At, Whole, fine_good, both_true, split_true, pair_test, both_good, alone_good, bind_good, number_good, ModeGood, mode_good}
 use Rattle.plan_lang.proofs.GoodEvents.{value_good, sound, sound_event, worded_good}
 use Rattle.plan_lang.proofs.KeptLines.{Keeps, kept}
 use Rattle.plan_lang.proofs.ObjectLemmas.{flip}
@@ -151,11 +151,6 @@ checked_good : (m : Mode) (x : Rated (((ℕ × ℕ) × ℕ) × Option ℕ)) → 
 checked_good m (r.Fine p) f h = made_by m p (is_newer p.0.1 p.1) refl f ((split_true (sizes_test p.0) true h).0)
 checked_good m r.Wide f h = tt
 checked_good m r.Deep f h = tt
-
-any_fine : {A : Type 0} (x : Rated A) → Fine (λ _. true) x
-any_fine (r.Fine a) = refl
-any_fine r.Wide = tt
-any_fine r.Deep = tt
 
 newer_by : (m : Mode) (sizes : Rated ((ℕ × ℕ) × ℕ)) (o : Option (Rated (Option ℕ))) → is_target m ≡ true → Fine sizes_test sizes → Whole is_setup (option_and_then (λ (newer : Rated (Option ℕ)). Some (checked (setup_made m) (both sizes newer))) o)
 newer_by m sizes None f h = tt

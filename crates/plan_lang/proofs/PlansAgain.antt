@@ -1,6 +1,6 @@
 -- The printed text of a plan is read again, line by line.
-use Rattle.std.proofs.Common.{◌≡◌, ℕ, zero, suc, ◌+◌, ◌*◌, ◌<◌, ◌≤◌, ◌^◌, Bool, true, false, cond, List, [], ◌∷◌, ◌++◌, length, map, get_or, Option, Some, None, Result, Ok, Err, refl, sym, ap, ◌∙◌, subst, append_assoc, length-append, arith}
-use Rattle.std.specs.Prelude.{◌&&◌, option_and_then, IfOk, bytes_eq, codes, nat_le, nat_lt, flat_map}
+use Rattle.std.proofs.Common.{◌≡◌, ℕ, ◌+◌, ◌*◌, ◌<◌, ◌≤◌, ◌^◌, Bool, true, false, cond, List, [], ◌∷◌, ◌++◌, length, map, get_or, Option, Some, None, Result, Ok, Err, refl, sym, ap, ◌∙◌, subst, append_assoc, arith}
+use Rattle.std.specs.Prelude.{◌&&◌, IfOk, bytes_eq, codes, nat_le, nat_lt, flat_map}
 use Rattle.std.specs.List.{list_all}
 use Rattle.std.specs.Fmt.{decimal}
 use Rattle.std.proofs.lemmas.Bool.Decides.{nat_tests}
@@ -17,7 +17,7 @@ use Rattle.boki_types.specs.declared.plan.Plan.{Plan}
 use Rattle.boki_types.specs.declared.plan.Setup.{Setup}
 use Rattle.boki_types.specs.declared.program.Function.{Function}
 use Rattle.boki_model.specs.Bodies.{is_identifier}
-use Rattle.boki_model.specs.Plans.{from_to, is_setup, are_objects, is_program, is_event, is_function, is_item, names, distinct, weight, weights, is_plan}
+use Rattle.boki_model.specs.Plans.{from_to, is_setup, are_objects, is_program, is_event, is_function, is_item, names, distinct, weight, weights}
 use Rattle.script_lang.specs.declared.lines.Line.TheVariants as l
 use Rattle.script_lang.specs.declared.rated.Rated.{Rated}
 use Rattle.script_lang.specs.declared.rated.Rated.TheVariants as r
@@ -26,14 +26,14 @@ use Rattle.script_lang.specs.declared.token.Token.{Token}
 use Rattle.script_lang.specs.declared.token.Token.TheVariants as t
 use Rattle.script_lang.specs.declared.draft.Stage.TheVariants.{Between}
 use Rattle.script_lang.specs.Names.{is_among, name_fault, or_else}
-use Rattle.script_lang.specs.Lines.{lines_in, line_of, spelled}
+use Rattle.script_lang.specs.Lines.{line_of, spelled}
 use Rattle.script_lang.specs.Statements.{fine_if}
 use Rattle.script_lang.specs.Tokens.{word_token, key_of, tokens_in}
 use Rattle.script_lang.proofs.GoodDrafts.{GoodFunction}
 use Rattle.script_lang.proofs.GoodStmts.{AllOf}
 use Rattle.script_lang.proofs.ProgramAgain.{functions_free}
 use Rattle.script_lang.proofs.Relexed.{word_lexed}
-use Rattle.script_lang.proofs.RelexedLines.{no_feed, feed_append}
+use Rattle.script_lang.proofs.RelexedLines.{no_feed}
 use Rattle.plan_lang.specs.declared.bodies.Block.{Block}
 use Rattle.plan_lang.specs.declared.bodies.Body.{Body}
 use Rattle.plan_lang.specs.declared.drafts.PlanDraft.{PlanDraft}
@@ -41,24 +41,24 @@ use Rattle.plan_lang.specs.declared.events.Entry.{Entry}
 use Rattle.plan_lang.specs.declared.fault.PlanFault.{PlanFault}
 use Rattle.plan_lang.specs.declared.heads.Due.TheVariants as due
 use Rattle.plan_lang.specs.declared.heads.Head.{Head}
-use Rattle.plan_lang.specs.Bodies.{times_of, opened, closed, counted, whole as body, within, placed, added, heard, worded_line, body_line, no_body}
-use Rattle.plan_lang.specs.Events.{verb_of, plain_by, plain, callless, worded, entry_of}
+use Rattle.plan_lang.specs.Bodies.{times_of, opened, counted, whole as body, within, added, heard, body_line, no_body}
+use Rattle.plan_lang.specs.Events.{verb_of, callless, worded, entry_of}
 use Rattle.plan_lang.specs.Heads.{head_line, no_head, has_ended, objects_fault}
 use Rattle.plan_lang.specs.Printed.{event_text, inner_line, item_text, head_text, plan_text}
 use Rattle.plan_lang.specs.Texts.{scan, refuse, with_head, with_body, plan_by, plan_line, no_plan, head_fault, plan_made, plan_named, stopped, plan_finished, plan_in, plan_of, lines_of}
 use Rattle.plan_lang.proofs.CleanEvents.{is_clean_event}
 use Rattle.plan_lang.proofs.CleanHeads.{CleanHead, is_clean_function, is_clean_object}
 use Rattle.plan_lang.proofs.CleanPlans.{is_clean_item, CleanPlan, plan_keeps_clean, no_plan_clean}
-use Rattle.plan_lang.proofs.EventsAgain.{Again, printed_event, identifiers}
-use Rattle.plan_lang.proofs.GoodFields.{both_true, split_true}
-use Rattle.plan_lang.proofs.GoodPlans.{object_test, GoodHead, GoodPlan, FoundGood, scan_good, none_or, few_functions, read_plan}
+use Rattle.plan_lang.proofs.EventsAgain.{printed_event, identifiers}
+use Rattle.plan_lang.proofs.GoodFields.{split_true}
+use Rattle.plan_lang.proofs.GoodPlans.{object_test, GoodHead, FoundGood, scan_good, none_or, few_functions, read_plan}
 use Rattle.plan_lang.proofs.HeadsAgain.{headed, events_close, head_again, not_ended}
 use Rattle.plan_lang.proofs.KeptLines.{kept}
 use Rattle.plan_lang.proofs.PlanLemmas.{plan_short}
 use Rattle.plan_lang.proofs.PrintedLines.{plain_decimal, plain_inline, event_inline}
 use Rattle.plan_lang.proofs.PrintedUtf8.{plan_utf8}
 use Rattle.plan_lang.proofs.ScansAgain.{plain_scan, piece_then, tokens_read, ReadsBack, reads_back, Widens, widened, within_limits}
-use Rattle.plan_lang.proofs.TokensAgain.{Cuts, whole, number_piece, behind_word}
+use Rattle.plan_lang.proofs.TokensAgain.{whole, number_piece, behind_word}
 
 -- The line of an event.
 begins : (fs : List Function) (x : Event) → line_of (event_text fs x) ≡ spelled (tokens_in (event_text fs x))

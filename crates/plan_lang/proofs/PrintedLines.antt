@@ -1,5 +1,5 @@
 -- The printed lines of events and turns: UTF-8 without a line feed.
-use Rattle.std.proofs.Common.{◌≡◌, ℕ, zero, suc, ◌+◌, ◌<◌, ◌≤◌, ◌/◌, ◌%◌, Bool, true, false, cond, eqb, leb, ltb, List, [], ◌∷◌, ◌++◌, length, map, Option, Some, None, refl, sym, ap, ◌∙◌, subst, arith, pos, negsuc, ℤ}
+use Rattle.std.proofs.Common.{◌≡◌, ℕ, zero, suc, ◌+◌, ◌<◌, ◌/◌, ◌%◌, Bool, true, false, cond, eqb, leb, ltb, List, [], ◌∷◌, ◌++◌, length, Option, Some, None, refl, arith, pos, negsuc, ℤ}
 use Rattle.std.specs.Prelude.{◌&&◌, ◌||◌, not, bytes_eq, codes, nat_lt, flat_map, slice_index}
 use Rattle.std.specs.List.{list_all, list_any}
 use Rattle.std.specs.Fmt.{decimal, signed_decimal, digits, digits_onto, digit_glyph}
@@ -18,15 +18,16 @@ use Rattle.boki_model.specs.Bodies.{is_letter as letter, is_digit as digit, is_w
 use Rattle.boki_model.specs.Plans.{names}
 use Rattle.script_lang.specs.Printed.{behind_comma, listed}
 use Rattle.script_lang.proofs.RelexedLines.{no_feed, feed_append, feed_quoted}
-use Rattle.plan_lang.specs.Printed.{name_at, call_text, tag_text, behind_tag, tags_text, one_text, pair_text, triple_text, event_text, turn_text}
+use Rattle.plan_lang.specs.Printed.{name_at, call_text, behind_tag, tags_text, one_text, pair_text, triple_text, newer_text, event_text, turn_text}
 use Rattle.plan_lang.proofs.GoodFields.{both_true, split_true}
-use Rattle.std.specs.Str.{IsUtf8, is_utf8}
+use Rattle.std.specs.Str.{IsUtf8}
 use Rattle.std.proofs.lemmas.Str.{IsUtf8-nil, IsUtf8-append, IsUtf8-from_ascii, IsUtf8-from_is_utf8}
 use Rattle.boki_types.specs.declared.turn.Turn.{Turn}
 use Rattle.boki_types.specs.declared.turn.Turn.TheVariants as u
 use Rattle.plan_lang.proofs.CleanEvents.{is_clean_event}
 use Rattle.plan_lang.proofs.CleanReads.{is_clean_value, are_clean_values}
 use Rattle.plan_lang.proofs.CleanTurns.{is_clean_turn}
+use Rattle.plan_lang.proofs.Utf8Tokens.{is_clean_text}
 
 -- ASCII without line feeds
 abbrev pub is_plain : ℕ → Bool
@@ -116,7 +117,7 @@ plain_feed (c ∷ cs) h =
 pub plain_inline : (w : List ℕ) → plain w ≡ true → Inline w
 plain_inline w h = record { utf8 = plain_utf8 w h; feed = plain_feed w h }
 
-pub quote_inline : (x : List ℕ) → is_utf8 (quoted x) ≡ true → Inline (quoted x)
+pub quote_inline : (x : List ℕ) → is_clean_text x ≡ true → Inline (quoted x)
 quote_inline x h = record { utf8 = IsUtf8-from_is_utf8 (quoted x) h; feed = feed_quoted x }
 
 -- a plain front, and what follows it
@@ -194,11 +195,15 @@ triple_plain word n m o h =
     plain_inline (triple_text word n m o) (plain_append word (decimal n ++ (32 ∷ (decimal m ++ (32 ∷ decimal o)))) h
     (two_plain (decimal n) (decimal m ++ (32 ∷ decimal o)) (plain_decimal n) (two_plain (decimal m) (decimal o) (plain_decimal m) (plain_decimal o))))
 
+pub newer_plain : (n : Option ℕ) → plain (newer_text n) ≡ true
+newer_plain None = refl
+newer_plain (Some n) = plain_decimal n
+
 -- a number with its space, and what follows it
-numbered : (n : ℕ) (b : List ℕ) → Inline b → Inline (decimal n ++ (codes " " ++ b))
+pub numbered : (n : ℕ) (b : List ℕ) → Inline b → Inline (decimal n ++ (codes " " ++ b))
 numbered n b h = front (decimal n) (codes " " ++ b) (plain_decimal n) (front (codes " ") b refl h)
 
-tagged : (tags : List Tag) (text : List ℕ) → is_utf8 (quoted text) ≡ true → Inline (tags_text tags ++ (codes " " ++ quoted text))
+tagged : (tags : List Tag) (text : List ℕ) → is_clean_text text ≡ true → Inline (tags_text tags ++ (codes " " ++ quoted text))
 tagged tags text h = front (tags_text tags) (codes " " ++ quoted text) (tags_plain tags) (front (codes " ") (quoted text) refl (quote_inline text h))
 
 -- Events and turns.

@@ -1,16 +1,13 @@
 -- The printed texts of heads and of plans are UTF-8.
-use Rattle.std.proofs.Common.{◌≡◌, ℕ, zero, suc, ◌+◌, ◌<◌, ◌^◌, Bool, true, false, leb, ltb, List, [], ◌∷◌, ◌++◌, Option, Some, None, refl, arith}
+use Rattle.std.proofs.Common.{◌≡◌, ℕ, zero, suc, ◌+◌, Bool, true, false, leb, ltb, List, [], ◌∷◌, ◌++◌, refl, sym, subst}
 use Rattle.std.specs.Prelude.{◌&&◌, codes, flat_map}
 use Rattle.std.specs.List.{list_all}
 use Rattle.std.specs.Fmt.{decimal, signed_decimal}
-use Rattle.std.specs.Str.{IsUtf8, is_utf8}
-use Rattle.std.proofs.lemmas.Bool.Decides.{nat_tests}
-use Rattle.std.proofs.lemmas.Str.{IsUtf8-nil, IsUtf8-append, IsUtf8-from_is_utf8}
+use Rattle.std.specs.Str.{IsUtf8}
+use Rattle.std.proofs.lemmas.Str.{IsUtf8-nil, IsUtf8-append}
 use denote.Hole.Carrier.{hidden}
-use Rattle.lb_base.specs.declared.value.Mode.{Mode}
-use Rattle.lb_base.specs.declared.value.Mode.TheVariants as mode
 use Rattle.lb_base.specs.declared.value.Value.{Value}
-use Rattle.lb_base.specs.Print.{value_text, mode_text}
+use Rattle.lb_base.specs.Print.{value_text}
 use Rattle.lb_base.specs.Quoted.{quoted}
 use Rattle.boki_types.specs.declared.expr.BinOp.{BinOp}
 use Rattle.boki_types.specs.declared.expr.BinOp.TheVariants as o
@@ -22,15 +19,15 @@ use Rattle.boki_types.specs.declared.plan.Setup.{Setup}
 use Rattle.boki_types.specs.declared.program.Function.{Function}
 use Rattle.boki_types.specs.declared.program.Stmt.{Stmt}
 use Rattle.boki_types.specs.declared.program.Stmt.TheVariants as s
-use Rattle.boki_model.specs.Bodies.{is_identifier, is_value, is_name, is_target}
-use Rattle.boki_model.specs.Plans.{operands, nesting, names, from_to, is_newer, is_setup}
+use Rattle.boki_model.specs.Bodies.{is_identifier}
+use Rattle.boki_model.specs.Plans.{operands, nesting, names}
 use Rattle.boki_model.specs.Script.{firsts, seconds, sides}
 use Rattle.script_lang.specs.Expressions.{rank, tight}
-use Rattle.script_lang.specs.Printed.{op_text, wrapped, expr_text, whole_text, listed, behind_comma, named_text, pair_text, name_text, commit_text, stmt_text, indent, line_depth, depth_behind, line_text, lines_text, function_text}
+use Rattle.script_lang.specs.Printed.{op_text, wrapped, expr_text, whole_text, listed, named_text, pair_text, name_text, commit_text, stmt_text, indent, line_depth, depth_behind, line_text, lines_text, function_text}
 use Rattle.script_lang.proofs.GoodDrafts.{GoodFunction}
 use Rattle.script_lang.proofs.GoodParts.{is_fine}
 use Rattle.script_lang.proofs.GoodStmts.{AllOf, IsName, is_good_expr, GoodStmt}
-use Rattle.plan_lang.specs.Printed.{newer_text, setup_text, valued_line, head_text, event_text, inner_line, item_text, plan_text}
+use Rattle.plan_lang.specs.Printed.{setup_text, valued_line, head_text, event_text, inner_line, item_text, plan_text}
 use Rattle.plan_lang.proofs.CleanHeads.{is_clean_function, is_clean_object}
 use Rattle.plan_lang.proofs.CleanStmts.{is_clean_expr, is_clean_stmt}
 use Rattle.plan_lang.proofs.GoodFields.{split_true}
@@ -40,7 +37,9 @@ use Rattle.boki_types.specs.declared.plan.Item.TheVariants.{One, Repeat}
 use Rattle.plan_lang.proofs.CleanEvents.{is_clean_event}
 use Rattle.plan_lang.proofs.CleanPlans.{is_clean_item}
 use Rattle.plan_lang.proofs.CleanReads.{is_clean_value}
-use Rattle.plan_lang.proofs.PrintedLines.{plain, plain_decimal, plain_signed, plain_name, Inline, joined, feed_utf8, plain_utf8, plain_inline, quote_inline, front, AllInline, listed_inline, value_inline, mode_plain, event_inline}
+use Rattle.plan_lang.proofs.PrintedLines.{plain, plain_decimal, plain_signed, plain_name, Inline, joined, feed_utf8, plain_utf8, plain_inline, quote_inline, front, AllInline, listed_inline, value_inline, event_inline}
+use Rattle.plan_lang.proofs.Utf8Tokens.{is_clean_text}
+use Rattle.plan_lang.proofs.HeadsAgain.{setup_apart, sizes_inline}
 
 -- Expressions.
 wrapped_inline : (b : Bool) (text : List ℕ) → Inline text → Inline (wrapped b text)
@@ -203,7 +202,7 @@ functions_utf8 (f ∷ fs) g c =
 -- Objects and the setup.
 object_utf8 : (x : List ℕ × Value) → is_clean_object x ≡ true → IsUtf8 (valued_line (codes "object ") x)
 object_utf8 x c =
-    let k = split_true (is_utf8 (quoted x.0)) (is_clean_value x.1) c in
+    let k = split_true (is_clean_text x.0) (is_clean_value x.1) c in
     plain_then (codes "object ") (quoted x.0 ++ (codes " " ++ (value_text x.1 ++ codes "\n"))) refl
     (IsUtf8-append (quoted x.0) (codes " " ++ (value_text x.1 ++ codes "\n")) ((quote_inline x.0 k.0).utf8)
     (plain_then (codes " ") (value_text x.1 ++ codes "\n") refl (line_utf8 (value_text x.1) (value_inline x.1 k.1))))
@@ -212,18 +211,9 @@ objects_utf8 : (xs : List (List ℕ × Value)) → list_all is_clean_object xs �
 objects_utf8 [] c = tt
 objects_utf8 (x ∷ xs) c = let k = split_true (is_clean_object x) (list_all is_clean_object xs) c in (object_utf8 x k.0, objects_utf8 xs k.1)
 
-newer_plain : (n : Option ℕ) → plain (newer_text n) ≡ true
-newer_plain None = refl
-newer_plain (Some n) = plain_decimal n
-
-number_then : (n : ℕ) (b : List ℕ) → IsUtf8 b → IsUtf8 (decimal n ++ (codes " " ++ b))
-number_then n b h = plain_then (decimal n) (codes " " ++ b) (plain_decimal n) (plain_then (codes " ") b refl h)
-
 setup_utf8 : (x : Setup) → IsUtf8 (setup_text x)
 setup_utf8 x =
-    let newer = plain_then (newer_text x.newer) (codes "\n") (newer_plain x.newer) feed_utf8 in
-    let behind = plain_then (mode_text x.mode) (newer_text x.newer ++ codes "\n") (mode_plain x.mode) newer in
-    plain_then (codes "setup ") _ refl (number_then x.shards _ (number_then x.replicas _ (number_then x.engines _ behind)))
+    subst IsUtf8 (sym (setup_apart x)) (line_utf8 _ (sizes_inline x.shards x.replicas x.engines x.mode x.newer))
 
 -- The whole head.
 pub head_utf8 : (plan : Plan) → list_all is_clean_object plan.objects ≡ true → AllOf GoodFunction plan.program.functions → list_all is_clean_function plan.program.functions ≡ true → IsUtf8 (head_text plan)

@@ -4,7 +4,7 @@ use Rattle.std.specs.Prelude.{IfOk, option_and_then}
 use Rattle.std.specs.Str.{IsUtf8}
 use Rattle.std.proofs.lemmas.Bool.Decides.{nat_tests}
 use Rattle.std.proofs.lemmas.List.{append-nil}
-use Rattle.std.proofs.lemmas.Str.{IsUtf8-nil, IsUtf8-take, IsUtf8-drop, IsCharBoundary-before_ascii, IsCharBoundary-after_ascii}
+use Rattle.std.proofs.lemmas.Str.{IsUtf8-take, IsUtf8-drop, IsCharBoundary-before_ascii, IsCharBoundary-after_ascii}
 use Rattle.boki_types.specs.declared.kind.Kind.{Kind}
 use Rattle.boki_types.specs.declared.kind.Kind.TheVariants as kind
 use Rattle.script_lang.specs.declared.lines.Line.{Line}
@@ -164,12 +164,12 @@ at_front : (a b : List ℕ) → get_or (a ++ 10 ∷ b) (length a) 0 ≡ 10
 at_front [] b = refl
 at_front (c ∷ cs) b = at_front cs b
 
-pub utf8_before : (a b : List ℕ) → IsUtf8 (a ++ 10 ∷ b) → IsUtf8 a
+utf8_before : (a b : List ℕ) → IsUtf8 (a ++ 10 ∷ b) → IsUtf8 a
 utf8_before a b h =
     let within : length a < length (a ++ 10 ∷ b) = omega (arith, length-append a (10 ∷ b)) in
     subst IsUtf8 (take_front a (10 ∷ b)) (IsUtf8-take (a ++ 10 ∷ b) (length a) h (IsCharBoundary-before_ascii (a ++ 10 ∷ b) (length a) within (omega (arith, at_front a b))))
 
-pub utf8_after : (a b : List ℕ) → IsUtf8 (a ++ 10 ∷ b) → IsUtf8 b
+utf8_after : (a b : List ℕ) → IsUtf8 (a ++ 10 ∷ b) → IsUtf8 b
 utf8_after a b h =
     let within : length a < length (a ++ 10 ∷ b) = omega (arith, length-append a (10 ∷ b)) in
     subst IsUtf8 (drop_more a b) (IsUtf8-drop (a ++ 10 ∷ b) (length a + 1) h (IsCharBoundary-after_ascii (a ++ 10 ∷ b) (length a) h within (omega (arith, at_front a b))))

@@ -2,21 +2,19 @@
 use Rattle.std.proofs.Common.{◌≡◌, ℕ, ◌+◌, Bool, true, false, cond, List, [], ◌∷◌, ◌++◌, length, Option, Some, None, Result, Ok, Err, refl, sym, ap, ◌∙◌, subst, append_assoc, arith}
 use Rattle.std.specs.Prelude.{◌&&◌, IfOk, codes, flat_map, nat_lt}
 use Rattle.std.specs.List.{list_all}
-use Rattle.std.specs.Str.{IsUtf8, is_utf8}
+use Rattle.std.specs.Str.{IsUtf8}
 use Rattle.std.proofs.lemmas.List.{append-nil}
-use Rattle.std.proofs.lemmas.Str.{IsUtf8-nil, IsUtf8-append, IsUtf8-from_is_utf8}
+use Rattle.std.proofs.lemmas.Str.{IsUtf8-nil, IsUtf8-append}
 use Rattle.boki_types.specs.declared.kind.Kind.{Kind}
 use Rattle.boki_types.specs.declared.kind.Kind.TheVariants as kind
 use Rattle.boki_types.specs.declared.program.Function.{Function}
 use Rattle.boki_types.specs.declared.turn.Turn.{Turn}
 use Rattle.boki_types.specs.declared.turn.Turn.TheVariants as u
 use Rattle.boki_types.specs.declared.turn.TurnText.{TurnText}
-use Rattle.script_lang.specs.declared.lines.Line.{Line}
-use Rattle.script_lang.specs.declared.lines.Line.TheVariants as l
 use Rattle.script_lang.specs.declared.rated.Rated.{Rated}
 use Rattle.script_lang.specs.declared.rated.Rated.TheVariants as r
 use Rattle.script_lang.specs.declared.token.Token.{Token}
-use Rattle.script_lang.specs.Lines.{lines_in, line_of, text_in, spelled}
+use Rattle.script_lang.specs.Lines.{line_of, spelled}
 use Rattle.script_lang.specs.Tokens.{tokens_in}
 use Rattle.script_lang.proofs.GoodTokens.{GoodTokens}
 use Rattle.script_lang.specs.Names.{name_fault, or_else}
@@ -25,9 +23,9 @@ use Rattle.plan_lang.specs.declared.fault.PlanFault.{PlanFault}
 use Rattle.plan_lang.specs.declared.heads.Head.{Head}
 use Rattle.plan_lang.specs.declared.turns.TurnEntry.{TurnEntry}
 use Rattle.plan_lang.specs.Bodies.{first_fault}
-use Rattle.plan_lang.specs.Heads.{head_line, has_ended, objects_fault, no_head}
+use Rattle.plan_lang.specs.Heads.{head_line, has_ended, objects_fault}
 use Rattle.plan_lang.specs.Printed.{turn_text, turn_line as printed_line}
-use Rattle.plan_lang.specs.Texts.{Takes, line_by, spelled_line, read_line, whole_line, goes_on, lines_from, scan, head_fault, plan_made, refuse}
+use Rattle.plan_lang.specs.Texts.{scan, head_fault, plan_made, refuse}
 use Rattle.plan_lang.specs.Turns.{callless, turn_of, with_turn, with_turn_head, turn_text_by, turn_line, no_turns, turns_named, turns_stopped, turns_finished, turns_in, turns_of}
 use Rattle.plan_lang.specs.TurnTexts.{is_turn, numbered}
 use Rattle.plan_lang.proofs.CleanHeads.{CleanHead, head_clean, no_head_clean}
