@@ -8,7 +8,6 @@ pub mod DotLemmas
 pub mod EventsAgain
 pub mod FewLemmas
 pub mod FieldsAgain
-pub mod FlatLemmas
 pub mod GoodFields
 pub mod GoodEvents
 pub mod GoodPlans
