@@ -46,8 +46,8 @@ use Rattle.plan_lang.specs.Events.{worded}
 use Rattle.plan_lang.specs.Fields.{number_at, mode_at}
 use Rattle.plan_lang.specs.Heads.{newer_of, checked, setup_made, setup_behind, setup_of, object_of, with_setup, with_object, with_draft, closed_by as head_closed, object_line, led_line, lead_of, lead_rest, between_line, due_line, head_line, no_head, has_ended, objects_fault}
 use Rattle.plan_lang.specs.Texts.{scan, with_head, with_body, plan_by, plan_line, no_plan, head_fault, plan_made, plan_named, stopped, plan_finished, plan_in, plan_of, refuse}
-use Rattle.plan_lang.proofs.GoodFields.{Fine, any_fine, At, Whole, fine_good, both_true, split_true, pair_test, both_good, alone_good, bind_good, number_good, ModeGood, mode_good}
 use Rattle.plan_lang.proofs.GoodEvents.{value_good, sound, sound_event, worded_good}
+use Rattle.plan_lang.proofs.GoodFields.{Fine, any_fine, At, Whole, fine_good, both_true, split_true, pair_test, both_good, alone_good, bind_good, number_good, ModeGood, mode_good}
 use Rattle.plan_lang.proofs.KeptLines.{Keeps, kept}
 use Rattle.plan_lang.proofs.ObjectLemmas.{flip}
 

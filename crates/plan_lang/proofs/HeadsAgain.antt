@@ -49,9 +49,9 @@ use Rattle.plan_lang.specs.Texts.{goes_on, spelled_line}
 use Rattle.plan_lang.proofs.FieldsAgain.{value_back}
 use Rattle.plan_lang.proofs.GoodFields.{split_true}
 use Rattle.plan_lang.proofs.GoodPlans.{object_test}
+use Rattle.plan_lang.proofs.PrintedLines.{Inline, plain_inline, front, mode_plain, newer_plain, numbered}
 use Rattle.plan_lang.proofs.ScansAgain.{plain_from, plain_scan, piece_then, tokens_read}
 use Rattle.plan_lang.proofs.TokensAgain.{Cuts, whole, number_piece, text_piece, value_tokens, value_piece, spaced, behind_word, word_piece}
-use Rattle.plan_lang.proofs.PrintedLines.{Inline, plain_inline, front, mode_plain, newer_plain, numbered}
 
 -- a head that has its setup
 abbrev pub headed : Setup → List (List ℕ × Value) → List ℕ → Due → Draft → Head

@@ -4,6 +4,8 @@ use Rattle.std.specs.Prelude.{◌&&◌, ◌||◌, not, bytes_eq, codes, nat_lt, 
 use Rattle.std.specs.List.{list_all, list_any}
 use Rattle.std.specs.Fmt.{decimal, signed_decimal, digits, digits_onto, digit_glyph}
 use Rattle.std.proofs.lemmas.Bool.Decides.{nat_tests}
+use Rattle.std.specs.Str.{IsUtf8}
+use Rattle.std.proofs.lemmas.Str.{IsUtf8-nil, IsUtf8-append, IsUtf8-from_ascii, IsUtf8-from_is_utf8}
 use Rattle.lb_base.specs.declared.value.Mode.{Mode}
 use Rattle.lb_base.specs.declared.value.Mode.TheVariants as mode
 use Rattle.lb_base.specs.declared.value.Tag.{Tag}
@@ -14,19 +16,17 @@ use Rattle.lb_base.specs.Quoted.{quoted}
 use Rattle.boki_types.specs.declared.event.Event.{Event}
 use Rattle.boki_types.specs.declared.event.Event.TheVariants as e
 use Rattle.boki_types.specs.declared.program.Function.{Function}
+use Rattle.boki_types.specs.declared.turn.Turn.{Turn}
+use Rattle.boki_types.specs.declared.turn.Turn.TheVariants as u
 use Rattle.boki_model.specs.Bodies.{is_letter as letter, is_digit as digit, is_word_text, is_identifier, reserved}
 use Rattle.boki_model.specs.Plans.{names}
 use Rattle.script_lang.specs.Printed.{behind_comma, listed}
 use Rattle.script_lang.proofs.RelexedLines.{no_feed, feed_append, feed_quoted}
 use Rattle.plan_lang.specs.Printed.{name_at, call_text, behind_tag, tags_text, one_text, pair_text, triple_text, newer_text, event_text, turn_text}
-use Rattle.plan_lang.proofs.GoodFields.{both_true, split_true}
-use Rattle.std.specs.Str.{IsUtf8}
-use Rattle.std.proofs.lemmas.Str.{IsUtf8-nil, IsUtf8-append, IsUtf8-from_ascii, IsUtf8-from_is_utf8}
-use Rattle.boki_types.specs.declared.turn.Turn.{Turn}
-use Rattle.boki_types.specs.declared.turn.Turn.TheVariants as u
 use Rattle.plan_lang.proofs.CleanEvents.{is_clean_event}
 use Rattle.plan_lang.proofs.CleanReads.{is_clean_value, are_clean_values}
 use Rattle.plan_lang.proofs.CleanTurns.{is_clean_turn}
+use Rattle.plan_lang.proofs.GoodFields.{both_true, split_true}
 use Rattle.plan_lang.proofs.Utf8Tokens.{is_clean_text}
 
 -- ASCII without line feeds

@@ -19,6 +19,9 @@ use Rattle.boki_types.specs.declared.plan.Setup.{Setup}
 use Rattle.boki_types.specs.declared.program.Function.{Function}
 use Rattle.boki_types.specs.declared.program.Stmt.{Stmt}
 use Rattle.boki_types.specs.declared.program.Stmt.TheVariants as s
+use Rattle.boki_types.specs.declared.event.Event.{Event}
+use Rattle.boki_types.specs.declared.plan.Item.{Item}
+use Rattle.boki_types.specs.declared.plan.Item.TheVariants.{One, Repeat}
 use Rattle.boki_model.specs.Bodies.{is_identifier}
 use Rattle.boki_model.specs.Plans.{operands, nesting, names}
 use Rattle.boki_model.specs.Script.{firsts, seconds, sides}
@@ -28,18 +31,15 @@ use Rattle.script_lang.proofs.GoodDrafts.{GoodFunction}
 use Rattle.script_lang.proofs.GoodParts.{is_fine}
 use Rattle.script_lang.proofs.GoodStmts.{AllOf, IsName, is_good_expr, GoodStmt}
 use Rattle.plan_lang.specs.Printed.{setup_text, valued_line, head_text, event_text, inner_line, item_text, plan_text}
-use Rattle.plan_lang.proofs.CleanHeads.{is_clean_function, is_clean_object}
-use Rattle.plan_lang.proofs.CleanStmts.{is_clean_expr, is_clean_stmt}
-use Rattle.plan_lang.proofs.GoodFields.{split_true}
-use Rattle.boki_types.specs.declared.event.Event.{Event}
-use Rattle.boki_types.specs.declared.plan.Item.{Item}
-use Rattle.boki_types.specs.declared.plan.Item.TheVariants.{One, Repeat}
 use Rattle.plan_lang.proofs.CleanEvents.{is_clean_event}
+use Rattle.plan_lang.proofs.CleanHeads.{is_clean_function, is_clean_object}
 use Rattle.plan_lang.proofs.CleanPlans.{is_clean_item}
 use Rattle.plan_lang.proofs.CleanReads.{is_clean_value}
+use Rattle.plan_lang.proofs.CleanStmts.{is_clean_expr, is_clean_stmt}
+use Rattle.plan_lang.proofs.GoodFields.{split_true}
+use Rattle.plan_lang.proofs.HeadsAgain.{setup_apart, sizes_inline}
 use Rattle.plan_lang.proofs.PrintedLines.{plain, plain_decimal, plain_signed, plain_name, Inline, joined, feed_utf8, plain_utf8, plain_inline, quote_inline, front, AllInline, listed_inline, value_inline, event_inline}
 use Rattle.plan_lang.proofs.Utf8Tokens.{is_clean_text}
-use Rattle.plan_lang.proofs.HeadsAgain.{setup_apart, sizes_inline}
 
 -- Expressions.
 wrapped_inline : (b : Bool) (text : List ℕ) → Inline text → Inline (wrapped b text)

@@ -16,8 +16,8 @@ use Rattle.script_lang.specs.declared.rated.Rated.TheVariants as r
 use Rattle.script_lang.specs.declared.token.Token.{Token}
 use Rattle.script_lang.specs.Lines.{line_of, spelled}
 use Rattle.script_lang.specs.Tokens.{tokens_in}
-use Rattle.script_lang.proofs.GoodTokens.{GoodTokens}
 use Rattle.script_lang.specs.Names.{name_fault, or_else}
+use Rattle.script_lang.proofs.GoodTokens.{GoodTokens}
 use Rattle.plan_lang.specs.declared.drafts.TurnDraft.{TurnDraft}
 use Rattle.plan_lang.specs.declared.fault.PlanFault.{PlanFault}
 use Rattle.plan_lang.specs.declared.heads.Head.{Head}
