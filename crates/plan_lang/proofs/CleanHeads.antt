@@ -2,9 +2,7 @@
 use Rattle.std.proofs.Common.{◌≡◌, ℕ, Bool, true, false, cond, List, [], ◌∷◌, length, drop, Option, Some, None, Result, Ok, Err, refl}
 use Rattle.std.specs.Prelude.{◌&&◌, IfOk, option_and_then, nat_lt}
 use Rattle.std.specs.List.{list_all}
-use Rattle.std.specs.Str.{is_utf8}
 use Rattle.lb_base.specs.declared.value.Value.{Value}
-use Rattle.lb_base.specs.Quoted.{quoted}
 use Rattle.boki_types.specs.declared.kind.Kind.{Kind}
 use Rattle.boki_types.specs.declared.kind.Kind.TheVariants as kind
 use Rattle.boki_types.specs.declared.plan.Setup.{Setup}
@@ -28,11 +26,11 @@ use Rattle.plan_lang.specs.declared.heads.Head.{Head}
 use Rattle.plan_lang.specs.declared.heads.Lead.{Lead}
 use Rattle.plan_lang.specs.declared.heads.Lead.TheVariants as lead
 use Rattle.plan_lang.specs.Heads.{setup_of, object_of, with_setup, with_object, with_draft, closed_by as head_closed, object_line, led_line, lead_of, lead_rest, between_line, due_line, head_line, no_head}
-use Rattle.plan_lang.proofs.CleanReads.{is_clean_value, Leaves, value_clean}
+use Rattle.plan_lang.proofs.CleanReads.{is_clean_value, drop_clean, Leaves, value_clean}
 use Rattle.plan_lang.proofs.CleanStmts.{is_clean_stmt, stmt_clean}
 use Rattle.plan_lang.proofs.GoodFields.{Whole, fine_good, split_true, both_good, alone_good}
 use Rattle.plan_lang.proofs.GoodPlans.{all_more}
-use Rattle.plan_lang.proofs.Utf8Tokens.{is_clean, are_clean}
+use Rattle.plan_lang.proofs.Utf8Tokens.{is_clean_text, are_clean}
 
 -- Functions.
 abbrev pub is_clean_function : Function → Bool
@@ -77,7 +75,7 @@ stage_clean n ts fs ms (Inside f m bs) c h g = lined_clean n fs ms f m bs (stmt_
 
 -- Heads.
 abbrev pub is_clean_object : List ℕ × Value → Bool
-is_clean_object o = is_utf8 (quoted o.0) && is_clean_value o.1
+is_clean_object o = is_clean_text o.0 && is_clean_value o.1
 
 pub record CleanHead (h : Head) : Type 0 where
   pub objects : list_all is_clean_object h.objects ≡ true
@@ -106,19 +104,15 @@ drafted : (n : ℕ) (ts : List Token) (h : Head) → are_clean ts ≡ true → C
 drafted n ts h c g =
     with_draft_clean h (draft_line n ts h.draft) g (stage_clean n ts h.draft.functions h.draft.marks h.draft.stage c g.draft.functions g.draft.stage)
 
-object_on : (name : List ℕ) (o : Option (Rated Value × List Token)) → is_utf8 (quoted name) ≡ true → Leaves is_clean_value o → Whole is_clean_object (option_and_then (λ (value : Rated Value × List Token). alone value.1 (both (fine_if (from_to 1 64 (length name)) name) value.0)) o)
+object_on : (name : List ℕ) (o : Option (Rated Value × List Token)) → is_clean_text name ≡ true → Leaves is_clean_value o → Whole is_clean_object (option_and_then (λ (value : Rated Value × List Token). alone value.1 (both (fine_if (from_to 1 64 (length name)) name) value.0)) o)
 object_on name None u h = tt
 object_on name (Some value) u h =
-    alone_good is_clean_object value.1 _ (both_good (λ x. is_utf8 (quoted x)) is_clean_value (fine_if (from_to 1 64 (length name)) name) value.0 (fine_good (λ x. is_utf8 (quoted x)) (from_to 1 64 (length name)) name (λ _. u)) h.0)
+    alone_good is_clean_object value.1 _ (both_good is_clean_text is_clean_value (fine_if (from_to 1 64 (length name)) name) value.0 (fine_good is_clean_text (from_to 1 64 (length name)) name (λ _. u)) h.0)
 
 object_clean : (ts : List Token) → are_clean ts ≡ true → Whole is_clean_object (object_of ts)
 object_clean (t.Text x ∷ ts) h =
-    let s = split_true (is_utf8 (quoted x)) (are_clean ts) h in object_on x (value_at ts) s.0 (value_clean ts s.1)
+    let s = split_true (is_clean_text x) (are_clean ts) h in object_on x (value_at ts) s.0 (value_clean ts s.1)
 object_clean _ h = tt
-
-drop_clean : (ts : List Token) → are_clean ts ≡ true → are_clean (drop 1 ts) ≡ true
-drop_clean [] h = h
-drop_clean (x ∷ ts) h = (split_true (is_clean x) (are_clean ts) h).1
 
 object_line_clean : (n : ℕ) (ts : List Token) (h : Head) (d : Due) → are_clean ts ≡ true → CleanHead h → HeadOk (object_line n ts h d)
 object_line_clean n ts h due.Setup c g = tt

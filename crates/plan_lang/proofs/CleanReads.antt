@@ -1,11 +1,9 @@
--- What is read from tokens whose quoted texts are UTF-8: values, and lists with commas between.
-use Rattle.std.proofs.Common.{◌≡◌, ℕ, zero, suc, ◌^◌, Bool, true, false, cond, List, [], ◌∷◌, ◌++◌, length, Option, Some, None, option_map, refl}
+-- What is read from tokens whose quoted texts are UTF-8: values, calls, and lists with commas between.
+use Rattle.std.proofs.Common.{◌≡◌, ℕ, zero, suc, ◌^◌, drop, Bool, true, false, cond, List, [], ◌∷◌, ◌++◌, length, Option, Some, None, option_map, refl}
 use Rattle.std.specs.Prelude.{option_and_then, nat_lt, nat_le, pos, neg_ℤ}
 use Rattle.std.specs.List.{list_all}
-use Rattle.std.specs.Str.{is_utf8}
 use Rattle.lb_base.specs.declared.value.Value.{Value}
 use Rattle.lb_base.specs.declared.value.Value.TheVariants as v
-use Rattle.lb_base.specs.Quoted.{quoted}
 use Rattle.script_lang.specs.declared.rated.Rated.{Rated}
 use Rattle.script_lang.specs.declared.rated.Rated.TheVariants as r
 use Rattle.script_lang.specs.declared.several.Several.{Several}
@@ -15,13 +13,13 @@ use Rattle.script_lang.specs.declared.token.Mark.TheVariants as m
 use Rattle.script_lang.specs.declared.token.Token.{Token}
 use Rattle.script_lang.specs.declared.token.Token.TheVariants as t
 use Rattle.script_lang.specs.Expressions.{is_zero}
-use Rattle.script_lang.specs.Statements.{Reader, both, fine_if, need, needed, cons, one_more, more_by, many_on, many, several, few, positive_value, negative_value, minus_value, value_at, closed_many, listed_by, listed, applied}
+use Rattle.script_lang.specs.Statements.{Reader, both, fine_if, need, needed, cons, one_more, more_by, many_on, many, several, few, positive_value, negative_value, minus_value, value_at, closed_many, listed_by, listed, applied, map_rated, alone, call_at}
 use Rattle.script_lang.specs.Stream.{taken, same_mark}
-use Rattle.plan_lang.proofs.GoodFields.{Fine, Whole, fine_good, map_good, both_true, split_true, pair_test, both_good}
-use Rattle.plan_lang.proofs.Utf8Tokens.{is_clean, are_clean}
+use Rattle.plan_lang.proofs.GoodFields.{Fine, any_fine, At, Whole, fine_good, map_good, both_true, split_true, pair_test, both_good, alone_good}
+use Rattle.plan_lang.proofs.Utf8Tokens.{is_clean_text, is_clean, are_clean}
 
 abbrev pub is_clean_value : Value → Bool
-is_clean_value (v.Text x) = is_utf8 (quoted x)
+is_clean_value (v.Text x) = is_clean_text x
 is_clean_value _ = true
 
 -- what was read passes a test, and the quoted texts behind it are UTF-8
@@ -32,20 +30,31 @@ Leaves p (Some x) = Fine p x.0 × (are_clean x.1 ≡ true)
 abbrev pub Reads : {A : Type 0} → (A → Bool) → Reader A → Type 0
 Reads p read = (ts : List Token) → are_clean ts ≡ true → Leaves p (read ts)
 
-pub any_fine : {A : Type 0} (x : Rated A) → Fine (λ _. true) x
-any_fine (r.Fine a) = refl
-any_fine r.Wide = tt
-any_fine r.Deep = tt
-
 pub bind_clean : {A C : Type 0} (p : A → Bool) (q : C → Bool) (o : Option (Rated A × List Token)) (f : Rated A × List Token → Option (Rated C)) → Leaves p o → ((x : Rated A × List Token) → Fine p x.0 → are_clean x.1 ≡ true → Whole q (f x)) → Whole q (option_and_then f o)
 bind_clean p q None f h k = tt
 bind_clean p q (Some x) f h k = k x h.0 h.1
+
+-- what has no text, and what has its texts in its last part
+pub bind_any : {A C : Type 0} (q : C → Bool) (o : Option A) (f : A → Option (Rated C)) → ((x : A) → Whole q (f x)) → Whole q (option_and_then f o)
+bind_any q None f k = tt
+bind_any q (Some x) f k = k x
+
+pub made_clean : {A C : Type 0} (q : C → Bool) (make : A → C) (x : Rated A) (ts : List Token) → ((a : A) → q (make a) ≡ true) → Whole q (alone ts (map_rated make x))
+made_clean q make x ts h = alone_good q ts (map_rated make x) (map_good (λ _. true) q make x (λ a _. h a) (any_fine x))
+
+pub last_clean : {A B C : Type 0} (p : B → Bool) (q : C → Bool) (make : A × B → C) (x : Rated A) (y : Rated B) (ts : List Token) → ((z : A × B) → p z.1 ≡ true → q (make z) ≡ true) → Fine p y → Whole q (alone ts (map_rated make (both x y)))
+last_clean p q make x y ts h g =
+    alone_good q ts (map_rated make (both x y)) (map_good (pair_test (λ _. true) p) q make (both x y) h (both_good (λ _. true) p x y (any_fine x) g))
 
 pub clean_front : (ts us : List Token) → are_clean (ts ++ us) ≡ true → (are_clean ts ≡ true) × (are_clean us ≡ true)
 clean_front [] us h = (refl, h)
 clean_front (x ∷ ts) us h =
     let s = split_true (is_clean x) (are_clean (ts ++ us)) h in
     let k = clean_front ts us s.1 in (both_true (is_clean x) (are_clean ts) s.0 k.0, k.1)
+
+pub drop_clean : (ts : List Token) → are_clean ts ≡ true → are_clean (drop 1 ts) ≡ true
+drop_clean [] h = h
+drop_clean (x ∷ ts) h = (split_true (is_clean x) (are_clean ts) h).1
 
 -- Values.
 positive_by : (n : ℕ) (b : Bool) → Fine is_clean_value (cond b (r.Fine (v.Int (pos n))) r.Wide)
@@ -76,7 +85,7 @@ pub value_clean : Reads is_clean_value value_at
 value_clean (t.Num n ∷ ts) h = (positive_clean n, h)
 value_clean (t.Minus true ∷ ts) h = minus_clean ts h
 value_clean (t.Text x ∷ ts) h =
-    let s = split_true (is_utf8 (quoted x)) (are_clean ts) h in
+    let s = split_true (is_clean_text x) (are_clean ts) h in
     (fine_good is_clean_value (nat_le (length x) 256) (v.Text x) (λ _. s.0), s.1)
 value_clean (t.Key k.Nothing ∷ ts) h = (refl, h)
 value_clean _ h = tt
@@ -164,3 +173,17 @@ behind_open p read f name (false, ts) h = tt
 pub applied_clean : {A : Type 0} (p : A → Bool) (read : Reader A) → Reads p read → (ts : List Token) → are_clean ts ≡ true → Applied p (applied read ts)
 applied_clean p read f (t.Name x ∷ ts) h = behind_open p read f (fine_if (nat_le (length x) 32) x) (taken m.Open ts) (taken_clean m.Open ts h)
 applied_clean p read f _ h = tt
+
+-- Calls.
+abbrev pub are_clean_values : List Value → Bool
+are_clean_values xs = list_all is_clean_value xs
+
+abbrev pub call_test : List ℕ × List Value → Bool
+call_test = pair_test (λ _. true) are_clean_values
+
+call_by : (o : Option ((Rated (List ℕ) × Several Value) × List Token)) → Applied is_clean_value o → At call_test (option_and_then (λ (call : (Rated (List ℕ) × Several Value) × List Token). Some (both call.0.0 call.0.1.items, call.1)) o)
+call_by None h = tt
+call_by (Some x) h = both_good (λ _. true) are_clean_values x.0.0 x.0.1.items (any_fine x.0.0) h
+
+pub call_clean : (ts : List Token) → are_clean ts ≡ true → At call_test (call_at ts)
+call_clean ts h = call_by (applied value_at ts) (applied_clean is_clean_value value_at value_clean ts h)

@@ -1,10 +1,8 @@
 -- The texts of expressions and statements that are read from a text are spelled in UTF-8.
-use Rattle.std.proofs.Common.{◌≡◌, ℕ, ◌+◌, ◌^◌, max, Bool, true, false, cond, List, [], ◌∷◌, length, drop, Option, Some, None, refl, sym, ◌∙◌, subst, pos, neg_ℤ}
+use Rattle.std.proofs.Common.{◌≡◌, ℕ, ◌+◌, ◌^◌, max, Bool, true, false, cond, List, [], ◌∷◌, length, Option, Some, None, refl, sym, ◌∙◌, subst, pos, neg_ℤ}
 use Rattle.std.specs.Prelude.{◌&&◌, option_and_then, bytes_eq, codes, nat_lt, nat_le}
 use Rattle.std.specs.List.{list_all}
-use Rattle.std.specs.Str.{is_utf8}
 use denote.Hole.Carrier.{hidden}
-use Rattle.lb_base.specs.Quoted.{quoted}
 use Rattle.boki_types.specs.declared.expr.BinOp.{BinOp}
 use Rattle.boki_types.specs.declared.expr.Expr.{Expr, more_of-Expr, end_of-Expr}
 use Rattle.boki_types.specs.declared.expr.Expr.TheVariants as e
@@ -32,14 +30,14 @@ use Rattle.script_lang.specs.Grammar.{Spells, number, signed, text, variable, no
 use Rattle.script_lang.specs.Statements.{both, map_rated, fine_if, need, needed, alone, several, few, named_at, pair_at, applied, setter_of, setter_by, setter_at, set_value, make_commit, set_commit, set_by, let_of, two_of, one_of, group_of, all_of, keyed, stmt_of}
 use Rattle.script_lang.specs.Stream.{taken, key_first}
 use Rattle.script_lang.proofs.GrammarSpelled.{read_is_spelled}
-use Rattle.plan_lang.proofs.CleanReads.{Leaves, Reads, LeavesMany, Applied, any_fine, bind_clean, clean_front, taken_clean, several_clean, few_clean, applied_clean}
-use Rattle.plan_lang.proofs.GoodFields.{Fine, Whole, map_good, both_true, split_true, pair_test, both_good, alone_good}
-use Rattle.plan_lang.proofs.Utf8Tokens.{is_clean, are_clean}
+use Rattle.plan_lang.proofs.CleanReads.{Leaves, Reads, LeavesMany, Applied, bind_clean, clean_front, drop_clean, taken_clean, several_clean, few_clean, applied_clean}
+use Rattle.plan_lang.proofs.GoodFields.{any_fine, Fine, Whole, map_good, both_true, split_true, pair_test, both_good, alone_good}
+use Rattle.plan_lang.proofs.Utf8Tokens.{is_clean_text, is_clean, are_clean}
 
 -- Expressions.
 abbrev pub is_clean_expr : Expr → Bool
 is_clean_expr (e.Int n) = true
-is_clean_expr (e.Text x) = is_utf8 (quoted x)
+is_clean_expr (e.Text x) = is_clean_text x
 is_clean_expr e.Nothing = true
 is_clean_expr (e.Var x) = true
 is_clean_expr (e.Not' p' (more_of-Expr a end_of-Expr)) = is_clean_expr a
@@ -107,7 +105,7 @@ two_clean o Deep Deep h k = tt
 spelled_clean : {p : ℕ} {ts : List Token} {a : Part} → Spells p ts a → are_clean ts ≡ true → CleanPart a
 spelled_clean (number n) h = positive_clean n
 spelled_clean (signed n f) h = negative_clean n
-spelled_clean (text x) h = leaf_clean (nat_le (length x) 256) (e.Text x) ((split_true (is_utf8 (quoted x)) true h).0)
+spelled_clean (text x) h = leaf_clean (nat_le (length x) 256) (e.Text x) ((split_true (is_clean_text x) true h).0)
 spelled_clean (variable x) h = leaf_clean (nat_le (length x) 32) (e.Var x) refl
 spelled_clean nothing h = refl
 spelled_clean (parens {ts = ts} {a = a} d) h = inside_clean (wrap w.Paren) a (of_wrap w.Paren) (spelled_clean d ((clean_front ts (t.Mark m.Close ∷ []) h).0))
@@ -237,10 +235,6 @@ two_of_clean make ts f h =
 one_of_clean : (make : Expr → Stmt) (ts : List Token) → ((a : Expr) → is_clean_expr a ≡ true → is_clean_stmt (make a) ≡ true) → are_clean ts ≡ true → Whole is_clean_stmt (one_of make ts)
 one_of_clean make ts f h =
     bind_clean is_clean_expr is_clean_stmt (expr_at ts) _ (expr_clean ts h) (λ x g c. alone_good is_clean_stmt x.1 _ (map_good is_clean_expr is_clean_stmt make x.0 f g))
-
-drop_clean : (ts : List Token) → are_clean ts ≡ true → are_clean (drop 1 ts) ≡ true
-drop_clean [] h = h
-drop_clean (x ∷ ts) h = (split_true (is_clean x) (are_clean ts) h).1
 
 setter_clean : (x : Setter) (ts : List Token) → are_clean ts ≡ true → are_clean (setter_by x ts).1 ≡ true
 setter_clean g.Value ts h = h

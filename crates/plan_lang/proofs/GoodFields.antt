@@ -25,6 +25,11 @@ Fine p (r.Fine a) = p a ≡ true
 Fine p r.Wide = Unit {0}
 Fine p r.Deep = Unit {0}
 
+pub any_fine : {A : Type 0} (x : Rated A) → Fine (λ _. true) x
+any_fine (r.Fine a) = refl
+any_fine r.Wide = tt
+any_fine r.Deep = tt
+
 abbrev pub At : {A : Type 0} → (A → Bool) → Option (Rated A × List Token) → Type 0
 At p None = Unit {0}
 At p (Some x) = Fine p x.0

@@ -20,19 +20,16 @@ use Rattle.boki_model.specs.Plans.{from_to, is_newer, is_setup, are_objects, is_
 use Rattle.script_lang.specs.declared.draft.Draft.{Draft}
 use Rattle.script_lang.specs.declared.draft.Stage.{Stage}
 use Rattle.script_lang.specs.declared.draft.Stage.TheVariants.{Between, Inside}
-use Rattle.script_lang.specs.declared.lines.Line.{Line}
-use Rattle.script_lang.specs.declared.lines.Line.TheVariants as l
 use Rattle.script_lang.specs.declared.rated.Rated.{Rated}
 use Rattle.script_lang.specs.declared.rated.Rated.TheVariants as r
 use Rattle.script_lang.specs.declared.token.Key.TheVariants as k
 use Rattle.script_lang.specs.declared.token.Token.{Token}
 use Rattle.script_lang.specs.declared.token.Token.TheVariants as t
 use Rattle.script_lang.specs.Functions.{draft_line, is_inside}
-use Rattle.script_lang.specs.Lines.{line_of, lines_in, text_in}
 use Rattle.script_lang.specs.Names.{is_among, name_fault, or_else}
 use Rattle.script_lang.specs.Statements.{both, fine_if, alone, text_at, value_at}
 use Rattle.script_lang.proofs.GoodTokens.{GoodTokens}
-use Rattle.script_lang.proofs.GoodDrafts.{GoodDraft, GoodStage, no_draft_good, stage_good, line_good}
+use Rattle.script_lang.proofs.GoodDrafts.{GoodDraft, GoodStage, no_draft_good, stage_good}
 use Rattle.script_lang.proofs.GoodNames.{functions_pass}
 use Rattle.plan_lang.specs.declared.bodies.Block.{Block}
 use Rattle.plan_lang.specs.declared.bodies.Body.{Body}
@@ -48,9 +45,10 @@ use Rattle.plan_lang.specs.Bodies.{times_of, opened, opened_by, counted, closed_
 use Rattle.plan_lang.specs.Events.{worded}
 use Rattle.plan_lang.specs.Fields.{number_at, mode_at}
 use Rattle.plan_lang.specs.Heads.{newer_of, checked, setup_made, setup_behind, setup_of, object_of, with_setup, with_object, with_draft, closed_by as head_closed, object_line, led_line, lead_of, lead_rest, between_line, due_line, head_line, no_head, has_ended, objects_fault}
-use Rattle.plan_lang.specs.Texts.{line_by, spelled_line, read_line, whole_line, goes_on, lines_from, scan, with_head, with_body, plan_by, plan_line, no_plan, head_fault, plan_made, plan_named, stopped, plan_finished, plan_in, plan_of, refuse}
-use Rattle.plan_lang.proofs.GoodFields.{Fine, At, Whole, fine_good, both_true, split_true, pair_test, both_good, alone_good, bind_good, number_good, ModeGood, mode_good}
+use Rattle.plan_lang.specs.Texts.{scan, with_head, with_body, plan_by, plan_line, no_plan, head_fault, plan_made, plan_named, stopped, plan_finished, plan_in, plan_of, refuse}
 use Rattle.plan_lang.proofs.GoodEvents.{value_good, sound, sound_event, worded_good}
+use Rattle.plan_lang.proofs.GoodFields.{Fine, any_fine, At, Whole, fine_good, both_true, split_true, pair_test, both_good, alone_good, bind_good, number_good, ModeGood, mode_good}
+use Rattle.plan_lang.proofs.KeptLines.{Keeps, kept}
 use Rattle.plan_lang.proofs.ObjectLemmas.{flip}
 
 -- Objects whose names differ.
@@ -153,11 +151,6 @@ checked_good : (m : Mode) (x : Rated (((ℕ × ℕ) × ℕ) × Option ℕ)) → 
 checked_good m (r.Fine p) f h = made_by m p (is_newer p.0.1 p.1) refl f ((split_true (sizes_test p.0) true h).0)
 checked_good m r.Wide f h = tt
 checked_good m r.Deep f h = tt
-
-any_fine : {A : Type 0} (x : Rated A) → Fine (λ _. true) x
-any_fine (r.Fine a) = refl
-any_fine r.Wide = tt
-any_fine r.Deep = tt
 
 newer_by : (m : Mode) (sizes : Rated ((ℕ × ℕ) × ℕ)) (o : Option (Rated (Option ℕ))) → is_target m ≡ true → Fine sizes_test sizes → Whole is_setup (option_and_then (λ (newer : Rated (Option ℕ)). Some (checked (setup_made m) (both sizes newer))) o)
 newer_by m sizes None f h = tt
@@ -371,31 +364,11 @@ unfolding BodyAt
 plan_step n ts d false e t g h = headed_good d (head_line (codes "events") n ts d.head) h (due_good (codes "events") n ts d.head d.head.due t g)
 plan_step n ts d true e t g h = bodied_good d (body_line d.head.setup d.head.draft.functions n ts d.body) e g (body_good d.head.setup d.head.draft.functions n ts d.body h)
 
-line_step : (n : ℕ) (line : Line) (d : PlanDraft) → ((ts : List Token) → line ≡ l.Tokens ts → GoodTokens ts) → GoodPlan d → IfOk (spelled_line plan_line n line d) GoodPlan
-line_step n l.Skipped d t g = g
-line_step n (l.Tokens ts) d t g = plan_step n ts d (has_ended d.head.due) refl (t ts refl) g.head g.body
-line_step n l.Bad d t g = tt
-
-text_step : (n : ℕ) (o : Option (List ℕ)) (d : PlanDraft) → GoodPlan d → IfOk (read_line plan_line n (line_by o) d) GoodPlan
-text_step n None d g = tt
-text_step n (Some text) d g = line_step n (line_of text) d (line_good text) g
-
-whole_by : (n : ℕ) (line : List ℕ) (d : PlanDraft) (c : Bool) → GoodPlan d → IfOk (read_line plan_line n (cond c (Err kind.Lines) (line_by (text_in line))) d) GoodPlan
-whole_by n line d true g = tt
-whole_by n line d false g = text_step n (text_in line) d g
+plan_keeps : Keeps GoodPlan plan_line
+plan_keeps n ts d t c g = plan_step n ts d (has_ended d.head.due) refl t g.head g.body
 
 abbrev pub FoundGood : Result (ℕ × PlanDraft) PlanFault → Type 0
 FoundGood o = IfOk o (λ p. GoodPlan p.1)
-
-goes_good : (others : PlanDraft → Result (ℕ × PlanDraft) PlanFault) (n : ℕ) (o : Result PlanDraft Kind) → IfOk o GoodPlan → ((d : PlanDraft) → GoodPlan d → FoundGood (others d)) → FoundGood (goes_on others n o)
-goes_good others n (Err k) h rest = tt
-goes_good others n (Ok d) h rest = rest d h
-
-pub lines_good : (most n : ℕ) (ls : List (List ℕ)) (rest : List ℕ) (d : PlanDraft) → GoodPlan d → FoundGood (lines_from plan_line most n ls rest d)
-lines_good most n [] [] d g = g
-lines_good most n [] (c ∷ cs) d g = tt
-lines_good most n (line ∷ ls) rest d g =
-    goes_good (lines_from plan_line most (n + 1) ls rest) n (whole_line plan_line most n line d) (whole_by n line d (nat_lt most n) g) (λ next h. lines_good most (n + 1) ls rest next h)
 
 -- the end
 pub few_functions : (n : ℕ) (s : Stage) → GoodStage n s → n ≤ 256
@@ -435,11 +408,14 @@ finished_good : (o : Result (ℕ × PlanDraft) PlanFault) → FoundGood o → Pl
 finished_good (Err f) h = tt
 finished_good (Ok p) h = stopped_good p.0 p.1.head p.1.body (has_ended p.1.head.due) p.1.body.block h.head h.body
 
-pub no_plan_good : GoodPlan no_plan
+no_plan_good : GoodPlan no_plan
 no_plan_good = record { head = no_head_good; body = no_body_at false no_head.setup no_head.draft.functions no_body refl }
 
+pub scan_good : (text : List ℕ) → FoundGood (scan plan_line 65536 1 text no_plan)
+scan_good text = kept GoodPlan plan_line plan_keeps 65536 1 text no_plan no_plan_good
+
 plan_in_good : (text : List ℕ) → PlanOk (plan_in text)
-plan_in_good text = finished_good (scan plan_line 65536 1 text no_plan) (lines_good 65536 1 (lines_in text).0 (lines_in text).1 no_plan no_plan_good)
+plan_in_good text = finished_good (scan plan_line 65536 1 text no_plan) (scan_good text)
 
 limited : (text : List ℕ) (c : Bool) → PlanOk (cond c (Err (refuse 0 kind.Length)) (plan_in text))
 limited text true = tt

@@ -38,7 +38,7 @@ use Rattle.script_lang.specs.Tokens.{word_token, key_of, tokens_in}
 use Rattle.script_lang.proofs.GoodDrafts.{GoodFunction}
 use Rattle.script_lang.proofs.GoodStmts.{AllOf}
 use Rattle.script_lang.proofs.ProgramAgain.{draft, scan_all}
-use Rattle.script_lang.proofs.RelexedLines.{no_feed, feed_append, feed_decimal, feed_int, feed_quoted}
+use Rattle.script_lang.proofs.RelexedLines.{no_feed, feed_append, feed_int, feed_quoted}
 use Rattle.plan_lang.specs.declared.heads.Due.{Due}
 use Rattle.plan_lang.specs.declared.heads.Due.TheVariants as due
 use Rattle.plan_lang.specs.declared.heads.Head.{Head}
@@ -49,6 +49,7 @@ use Rattle.plan_lang.specs.Texts.{goes_on, spelled_line}
 use Rattle.plan_lang.proofs.FieldsAgain.{value_back}
 use Rattle.plan_lang.proofs.GoodFields.{split_true}
 use Rattle.plan_lang.proofs.GoodPlans.{object_test}
+use Rattle.plan_lang.proofs.PrintedLines.{Inline, plain_inline, front, mode_plain, newer_plain, numbered}
 use Rattle.plan_lang.proofs.ScansAgain.{plain_from, plain_scan, piece_then, tokens_read}
 use Rattle.plan_lang.proofs.TokensAgain.{Cuts, whole, number_piece, text_piece, value_tokens, value_piece, spaced, behind_word, word_piece}
 
@@ -286,7 +287,7 @@ unfolding newer_tokens
 newer_cut w e None h k i j = subst (λ (x : List ℕ). Cuts x (t.Name w ∷ [])) (sym (append-nil w)) (word_piece w h k)
 newer_cut w e (Some n) h k i j = behind_word w (decimal n) (t.Num (Some n) ∷ []) h k (number_piece n (low_by 1 16 n (omega arith) (newer_low e n i j)))
 
-abbrev sizes_front : ℕ → ℕ → ℕ → List ℕ → Option ℕ → List ℕ
+abbrev pub sizes_front : ℕ → ℕ → ℕ → List ℕ → Option ℕ → List ℕ
 sizes_front s p e w f = decimal s ++ (32 ∷ (decimal p ++ (32 ∷ (decimal e ++ (32 ∷ (w ++ newer_text f))))))
 
 sizes_cut : (s p e : ℕ) (w : List ℕ) (f : Option ℕ) → word_token w ≡ t.Name w → is_word_text w ≡ true → Sizes s p e f → tokens_in (codes "setup" ++ (32 ∷ sizes_front s p e w f)) ≡ Some (setup_tokens s p e w f)
@@ -304,23 +305,11 @@ mode_cut mode.R s p e f h z = ap spelled (sizes_cut s p e (codes "R") f refl ref
 mode_cut mode.W s p e f h z = ap spelled (sizes_cut s p e (codes "W") f refl refl z)
 mode_cut mode.T s p e f h z = absurd (cc)
 
-feed_mode : (m : Mode) → no_feed (mode_text m) ≡ true
-feed_mode mode.R = refl
-feed_mode mode.W = refl
-feed_mode mode.T = refl
+pub sizes_inline : (s p e : ℕ) (m : Mode) (f : Option ℕ) → Inline (codes "setup" ++ (32 ∷ sizes_front s p e (mode_text m) f))
+sizes_inline s p e m f =
+    front (codes "setup ") _ refl (numbered s _ (numbered p _ (numbered e _ (front (mode_text m) (newer_text f) (mode_plain m) (plain_inline (newer_text f) (newer_plain f))))))
 
-feed_newer : (e : ℕ) (f : Option ℕ) → from_to 1 16 e ≡ true → is_newer e f ≡ true → no_feed (newer_text f) ≡ true
-feed_newer e None h k = refl
-feed_newer e (Some n) h k = feed_decimal n (low_by 1 16 n (omega arith) (newer_low e n h k))
-
-sizes_feed : (s p e : ℕ) (m : Mode) (f : Option ℕ) → Sizes s p e f → no_feed (sizes_front s p e (mode_text m) f) ≡ true
-sizes_feed s p e m f z =
-    feed_append (decimal s) _ (feed_decimal s (low_by 1 16 s (omega arith) z.shards))
-    (feed_append (decimal p) _ (feed_decimal p (low_by 1 5 p (omega arith) z.replicas))
-    (feed_append (decimal e) _ (feed_decimal e (low_by 1 16 e (omega arith) z.engines))
-    (feed_append (mode_text m) (newer_text f) (feed_mode m) (feed_newer e f z.engines z.newer))))
-
-setup_apart : (setup : Setup) → setup_text setup ≡ (codes "setup" ++ (32 ∷ sizes_front setup.shards setup.replicas setup.engines (mode_text setup.mode) setup.newer)) ++ 10 ∷ []
+pub setup_apart : (setup : Setup) → setup_text setup ≡ (codes "setup" ++ (32 ∷ sizes_front setup.shards setup.replicas setup.engines (mode_text setup.mode) setup.newer)) ++ 10 ∷ []
 setup_apart setup = simp append_assoc
 
 setup_sizes : (setup : Setup) → is_setup setup ≡ true → Sizes setup.shards setup.replicas setup.engines setup.newer × (is_target setup.mode ≡ true)
@@ -334,10 +323,10 @@ setup_sizes setup h =
 setup_read : (close : List ℕ) (n : ℕ) (setup : Setup) → is_setup setup ≡ true → plain_scan (head_line close) n (setup_text setup) no_head ≡ Ok (n + 1, headed setup [] [] due.Objects no_draft)
 setup_read close n setup h =
     let z = setup_sizes setup h in
-    let front = codes "setup" ++ (32 ∷ sizes_front setup.shards setup.replicas setup.engines (mode_text setup.mode) setup.newer) in
+    let line = codes "setup" ++ (32 ∷ sizes_front setup.shards setup.replicas setup.engines (mode_text setup.mode) setup.newer) in
     ap (λ text. plain_scan (head_line close) n text no_head) (setup_apart setup)
-    ∙ tokens_read (head_line close) n front (setup_tokens setup.shards setup.replicas setup.engines (mode_text setup.mode) setup.newer) no_head (headed setup [] [] due.Objects no_draft)
-    (sizes_feed setup.shards setup.replicas setup.engines setup.mode setup.newer z.0) (mode_cut setup.mode setup.shards setup.replicas setup.engines setup.newer z.1 z.0)
+    ∙ tokens_read (head_line close) n line (setup_tokens setup.shards setup.replicas setup.engines (mode_text setup.mode) setup.newer) no_head (headed setup [] [] due.Objects no_draft)
+    ((sizes_inline setup.shards setup.replicas setup.engines setup.mode setup.newer).feed) (mode_cut setup.mode setup.shards setup.replicas setup.engines setup.newer z.1 z.0)
     (ap (with_setup no_head) (back_by setup.mode setup.shards setup.replicas setup.engines setup.newer z.1 z.0))
 
 -- The word that ends the head.

@@ -1,6 +1,6 @@
 -- Printed numbers with dots between are read again.
-use Rattle.std.proofs.Common.{◌≡◌, ℕ, zero, suc, ◌+◌, ◌<◌, ◌≤◌, ◌^◌, Bool, true, false, cond, eqb, ltb, List, [], ◌∷◌, ◌++◌, length, map, Option, Some, None, option_map, refl, sym, ap, ◌∙◌, subst, append_assoc, length-append, arith}
-use Rattle.std.specs.Prelude.{◌&&◌, ◌||◌, not, codes, flat_map, slice_index, nat_lt}
+use Rattle.std.proofs.Common.{◌≡◌, ℕ, ◌<◌, ◌≤◌, ◌^◌, Bool, true, false, cond, eqb, ltb, List, [], ◌∷◌, ◌++◌, length, map, Option, Some, None, option_map, refl, sym, ap, ◌∙◌, subst, length-append, arith}
+use Rattle.std.specs.Prelude.{◌&&◌, ◌||◌, slice_index, nat_lt}
 use Rattle.std.specs.List.{list_all, list_any}
 use Rattle.std.specs.Char.{is_ascii_digit}
 use Rattle.std.specs.Fmt.{decimal}
@@ -12,16 +12,14 @@ use Rattle.lb_base.specs.Numeral.{is_numeral, num_of}
 use Rattle.lb_base.specs.Path.{is_path, are_ordinals, is_request, is_ordinal, path_of}
 use Rattle.lb_base.specs.Print.{path_text, dotted}
 use Rattle.lb_base.proofs.NumeralLaws.{numeral-reads_back}
-use Rattle.script_lang.specs.declared.rated.Rated.{Rated}
 use Rattle.script_lang.specs.declared.rated.Rated.TheVariants as r
-use Rattle.script_lang.specs.declared.spans.Class.{Class}
 use Rattle.script_lang.specs.declared.spans.Class.TheVariants.{Figure}
 use Rattle.script_lang.specs.declared.token.Token.{Token}
 use Rattle.script_lang.specs.declared.token.Token.TheVariants as t
 use Rattle.script_lang.specs.Stream.{behind}
 use Rattle.script_lang.specs.Tokens.{in_class, span, split_by, number, with_rest, numbered, token_at}
 use Rattle.script_lang.proofs.Relexed.{Lexed, first, is_safe, Lexes, number_lexed}
-use Rattle.plan_lang.specs.Fields.{onto, pieces, with_number, numbers_of, numbers_in, part_of, with_part, parts_of, rated_by, path_by, path_in, path_at}
+use Rattle.plan_lang.specs.Fields.{onto, pieces, with_number, numbers_of, numbers_in, with_part, parts_of, rated_by, path_by, path_in, path_at}
 use Rattle.plan_lang.proofs.GoodFields.{both_true, split_true}
 
 -- Text of digits and dots is one token.
@@ -32,7 +30,7 @@ stops : (rest : List ℕ) → is_safe rest ≡ true → span Figure rest ≡ ([]
 stops [] h = refl
 stops (c ∷ cs) h = ap (λ b. split_by b c cs (span Figure cs)) (not_figure c h)
 
-abbrev pub all_figures : List ℕ → Bool
+abbrev all_figures : List ℕ → Bool
 all_figures w = list_all (in_class Figure) w
 
 goes_by : (c : ℕ) (cs front rest : List ℕ) (p : List ℕ × List ℕ) → in_class Figure c ≡ true → p ≡ (front, rest) → split_by (in_class Figure c) c cs p ≡ (c ∷ front, rest)
@@ -93,16 +91,16 @@ from_num : (w : List ℕ) (n : ℕ) (b : Bool) → (is_numeral w && ltb (digits_
 from_num w n true e h = (split_true _ _ e).0
 from_num w n false e h = absurd (cc)
 
-pub numeral_is : (n : ℕ) → n < 2 ^ 64 → is_numeral (decimal n) ≡ true
+numeral_is : (n : ℕ) → n < 2 ^ 64 → is_numeral (decimal n) ≡ true
 numeral_is n l = from_num (decimal n) n (is_numeral (decimal n) && ltb (digits_value 10 (decimal n)) (2 ^ 64)) refl (numeral-reads_back n l)
 
-pub digits_of : (w : List ℕ) → is_numeral w ≡ true → all_ascii_digits w ≡ true
+digits_of : (w : List ℕ) → is_numeral w ≡ true → all_ascii_digits w ≡ true
 digits_of w h = (split_true (ltb 0 (length w)) (all_ascii_digits w) ((split_true (ltb 0 (length w) && all_ascii_digits w) _ h).0)).1
 
 digit_figure : (c : ℕ) → is_ascii_digit c ≡ true → in_class Figure c ≡ true
 digit_figure c h = rw h refl
 
-pub digits_figures : (w rest : List ℕ) → all_ascii_digits w ≡ true → all_figures rest ≡ true → all_figures (w ++ rest) ≡ true
+digits_figures : (w rest : List ℕ) → all_ascii_digits w ≡ true → all_figures rest ≡ true → all_figures (w ++ rest) ≡ true
 digits_figures [] rest h k = k
 digits_figures (c ∷ cs) rest h k =
     let s = split_true (is_ascii_digit c) (all_ascii_digits cs) h in
@@ -123,10 +121,10 @@ dot_behind (c ∷ cs) rest = or_right (eqb c 46) (has_dot (cs ++ (46 ∷ rest)))
 abbrev pub small : List ℕ → Bool
 small ns = list_all (λ n. nat_lt n (2 ^ 64)) ns
 
-pub low : (n : ℕ) → nat_lt n (2 ^ 64) ≡ true → n < 2 ^ 64
+low : (n : ℕ) → nat_lt n (2 ^ 64) ≡ true → n < 2 ^ 64
 low n h = grind (arith, nat_tests, h)
 
-pub dotted_figures : (ns : List ℕ) → small ns ≡ true → all_figures (dotted ns) ≡ true
+dotted_figures : (ns : List ℕ) → small ns ≡ true → all_figures (dotted ns) ≡ true
 dotted_figures [] h = refl
 dotted_figures (n ∷ ns) h =
     let s = split_true (nat_lt n (2 ^ 64)) (small ns) h in

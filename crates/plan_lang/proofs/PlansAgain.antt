@@ -1,6 +1,6 @@
 -- The printed text of a plan is read again, line by line.
 use Rattle.std.proofs.Common.{◌≡◌, ℕ, ◌+◌, ◌*◌, ◌<◌, ◌≤◌, ◌^◌, Bool, true, false, cond, List, [], ◌∷◌, ◌++◌, length, map, get_or, Option, Some, None, Result, Ok, Err, refl, sym, ap, ◌∙◌, subst, append_assoc, arith}
-use Rattle.std.specs.Prelude.{◌&&◌, option_and_then, bytes_eq, codes, nat_le, nat_lt, flat_map}
+use Rattle.std.specs.Prelude.{◌&&◌, IfOk, bytes_eq, codes, nat_le, nat_lt, flat_map}
 use Rattle.std.specs.List.{list_all}
 use Rattle.std.specs.Fmt.{decimal}
 use Rattle.std.proofs.lemmas.Bool.Decides.{nat_tests}
@@ -26,7 +26,7 @@ use Rattle.script_lang.specs.declared.token.Token.{Token}
 use Rattle.script_lang.specs.declared.token.Token.TheVariants as t
 use Rattle.script_lang.specs.declared.draft.Stage.TheVariants.{Between}
 use Rattle.script_lang.specs.Names.{is_among, name_fault, or_else}
-use Rattle.script_lang.specs.Lines.{lines_in, line_of, spelled}
+use Rattle.script_lang.specs.Lines.{line_of, spelled}
 use Rattle.script_lang.specs.Statements.{fine_if}
 use Rattle.script_lang.specs.Tokens.{word_token, key_of, tokens_in}
 use Rattle.script_lang.proofs.GoodDrafts.{GoodFunction}
@@ -45,28 +45,22 @@ use Rattle.plan_lang.specs.Bodies.{times_of, opened, counted, whole as body, wit
 use Rattle.plan_lang.specs.Events.{verb_of, callless, worded, entry_of}
 use Rattle.plan_lang.specs.Heads.{head_line, no_head, has_ended, objects_fault}
 use Rattle.plan_lang.specs.Printed.{event_text, inner_line, item_text, head_text, plan_text}
-use Rattle.plan_lang.specs.Texts.{scan, refuse, with_head, with_body, plan_by, plan_line, no_plan, head_fault, plan_made, plan_named, stopped, plan_finished, plan_in, plan_of}
+use Rattle.plan_lang.specs.Texts.{scan, refuse, with_head, with_body, plan_by, plan_line, no_plan, head_fault, plan_made, plan_named, stopped, plan_finished, plan_in, plan_of, lines_of}
+use Rattle.plan_lang.proofs.CleanEvents.{is_clean_event}
+use Rattle.plan_lang.proofs.CleanHeads.{CleanHead, is_clean_function, is_clean_object}
+use Rattle.plan_lang.proofs.CleanPlans.{is_clean_item, CleanPlan, plan_keeps_clean, no_plan_clean}
 use Rattle.plan_lang.proofs.EventsAgain.{printed_event, identifiers}
 use Rattle.plan_lang.proofs.GoodFields.{split_true}
-use Rattle.plan_lang.proofs.GoodPlans.{object_test, GoodHead, FoundGood, lines_good, no_plan_good, none_or, few_functions, read_plan}
+use Rattle.plan_lang.proofs.GoodPlans.{object_test, GoodHead, FoundGood, scan_good, none_or, few_functions, read_plan}
 use Rattle.plan_lang.proofs.HeadsAgain.{headed, events_close, head_again, not_ended}
-use Rattle.plan_lang.proofs.PiecesAgain.{event_feed, plain_decimal, plain_feed}
+use Rattle.plan_lang.proofs.KeptLines.{kept}
 use Rattle.plan_lang.proofs.PlanLemmas.{plan_short}
-use Rattle.plan_lang.proofs.ScansAgain.{plain_scan, piece_then, tokens_read, Widens, widened, within_limits}
-use Rattle.plan_lang.proofs.TextsPlanned.{plan_texts}
-use Rattle.plan_lang.proofs.TextsPrinted.{plan_utf8}
+use Rattle.plan_lang.proofs.PrintedLines.{plain_decimal, plain_inline, event_inline}
+use Rattle.plan_lang.proofs.PrintedUtf8.{plan_utf8}
+use Rattle.plan_lang.proofs.ScansAgain.{plain_scan, piece_then, tokens_read, ReadsBack, reads_back, Widens, widened, within_limits}
 use Rattle.plan_lang.proofs.TokensAgain.{whole, number_piece, behind_word}
 
--- The tokens of an event's line.
-record EventRead (setup : Setup) (fs : List Function) (x : Event) : Type 0 where
-  tokens : List Token
-  cut : tokens_in (event_text fs x) ≡ Some tokens
-  entry : entry_of setup fs tokens ≡ Some (r.Fine (callless x))
-
-read_by : (setup : Setup) (fs : List Function) (x : Event) (o : Option (List Token)) → tokens_in (event_text fs x) ≡ o → option_and_then (entry_of setup fs) o ≡ Some (r.Fine (callless x)) → EventRead setup fs x
-read_by setup fs x None e h = absurd (cc)
-read_by setup fs x (Some ts) e h = record { tokens = ts; cut = e; entry = h }
-
+-- The line of an event.
 begins : (fs : List Function) (x : Event) → line_of (event_text fs x) ≡ spelled (tokens_in (event_text fs x))
 begins fs (v.Submit n q f args) = refl
 begins fs (v.Copy shard replica n) = refl
@@ -125,46 +119,47 @@ record Heads (setup : Setup) (fs : List Function) : Type 0 where
   program : is_program (record { functions = fs }) ≡ true
   names_are : list_all is_identifier (names fs) ≡ true
 
-event_read : (setup : Setup) (fs : List Function) (x : Event) → Heads setup fs → is_event setup fs x ≡ true → EventRead setup fs x
-event_read setup fs x s h = read_by setup fs x (tokens_in (event_text fs x)) refl (printed_event setup fs x s.setup_is s.program h)
+event_read : (setup : Setup) (fs : List Function) (x : Event) → Heads setup fs → is_event setup fs x ≡ true → ReadsBack (entry_of setup fs) (event_text fs x) (callless x)
+event_read setup fs x s h = reads_back (entry_of setup fs) (event_text fs x) (callless x) (printed_event setup fs x s.setup_is s.program h)
 
 small_count : (n : ℕ) → n ≤ 200000 → within n ≡ Some n
 small_count n h = let e : nat_le n 200000 ≡ true = grind (arith, nat_tests, h) in ap (λ b. cond b (Some n) None) e
 
 -- an event by itself
-one_read : (setup : Setup) (fs : List Function) (n : ℕ) (items : List Item) (count : ℕ) (x : Event) → Heads setup fs → is_event setup fs x ≡ true → count + 1 ≤ 200000 → plain_scan (body_line setup fs) n (item_text fs (One x)) (body items count None) ≡ Ok (n + 1, body (items ++ One x ∷ []) (count + 1) None)
-one_read setup fs n items count x s h few =
+one_read : (setup : Setup) (fs : List Function) (n : ℕ) (items : List Item) (count : ℕ) (x : Event) → Heads setup fs → is_event setup fs x ≡ true → is_clean_event x ≡ true → count + 1 ≤ 200000 → plain_scan (body_line setup fs) n (item_text fs (One x)) (body items count None) ≡ Ok (n + 1, body (items ++ One x ∷ []) (count + 1) None)
+one_read setup fs n items count x s h c few =
     let a = event_read setup fs x s h in
-    tokens_read (body_line setup fs) n (event_text fs x) a.tokens (body items count None) (body (items ++ One x ∷ []) (count + 1) None) (event_feed fs x s.names_are) (begins fs x ∙ ap spelled a.cut)
-    (heard_entry setup fs n a.tokens (callless x) (body items count None) a.entry ∙ ap (added n (body items count None) (callless x)) (small_count (count + 1) few))
+    tokens_read (body_line setup fs) n (event_text fs x) a.tokens (body items count None) (body (items ++ One x ∷ []) (count + 1) None) ((event_inline fs x s.names_are c).feed) (begins fs x ∙ ap spelled a.cut)
+    (heard_entry setup fs n a.tokens (callless x) (body items count None) a.back ∙ ap (added n (body items count None) (callless x)) (small_count (count + 1) few))
 
 -- the events of a repeat
 repeating : List Item → ℕ → ℕ → List Event → Body
 repeating items count times xs = record { items = items; count = count; block = Some (record { times = times; events = xs }); fault = None }
 
-inner_read : (setup : Setup) (fs : List Function) (n : ℕ) (items : List Item) (count times : ℕ) (before : List Event) (x : Event) → Heads setup fs → is_event setup fs x ≡ true → plain_scan (body_line setup fs) n (inner_line fs x) (repeating items count times before) ≡ Ok (n + 1, repeating items count times (before ++ x ∷ []))
+inner_read : (setup : Setup) (fs : List Function) (n : ℕ) (items : List Item) (count times : ℕ) (before : List Event) (x : Event) → Heads setup fs → is_event setup fs x ≡ true → is_clean_event x ≡ true → plain_scan (body_line setup fs) n (inner_line fs x) (repeating items count times before) ≡ Ok (n + 1, repeating items count times (before ++ x ∷ []))
 unfolding repeating
-inner_read setup fs n items count times before x s h =
+inner_read setup fs n items count times before x s h c =
     let a = event_read setup fs x s h in
-    tokens_read (body_line setup fs) n (codes "  " ++ event_text fs x) a.tokens (repeating items count times before) (repeating items count times (before ++ x ∷ [])) (event_feed fs x s.names_are) (begins fs x ∙ ap spelled a.cut)
-    (heard_entry setup fs n a.tokens (callless x) (repeating items count times before) a.entry)
+    tokens_read (body_line setup fs) n (codes "  " ++ event_text fs x) a.tokens (repeating items count times before) (repeating items count times (before ++ x ∷ [])) ((event_inline fs x s.names_are c).feed) (begins fs x ∙ ap spelled a.cut)
+    (heard_entry setup fs n a.tokens (callless x) (repeating items count times before) a.back)
 
 record InnersRead (setup : Setup) (fs : List Function) (n : ℕ) (items : List Item) (count times : ℕ) (before xs : List Event) : Type 0 where
   line : ℕ
   same : plain_scan (body_line setup fs) n (flat_map (inner_line fs) xs) (repeating items count times before) ≡ Ok (line, repeating items count times (before ++ xs))
 
-inners_read : (setup : Setup) (fs : List Function) (n : ℕ) (items : List Item) (count times : ℕ) (before xs : List Event) → Heads setup fs → list_all (is_event setup fs) xs ≡ true → InnersRead setup fs n items count times before xs
-inners_read setup fs n items count times before [] s h = record {
+inners_read : (setup : Setup) (fs : List Function) (n : ℕ) (items : List Item) (count times : ℕ) (before xs : List Event) → Heads setup fs → list_all (is_event setup fs) xs ≡ true → list_all is_clean_event xs ≡ true → InnersRead setup fs n items count times before xs
+inners_read setup fs n items count times before [] s h c = record {
   line = n;
   same = ap (λ (es : List Event). Ok (n, repeating items count times es)) (sym (append-nil before));
 }
-inners_read setup fs n items count times before (x ∷ xs) s h =
+inners_read setup fs n items count times before (x ∷ xs) s h c =
+    let k = split_true (is_clean_event x) (list_all is_clean_event xs) c in
     let q = split_true (is_event setup fs x) (list_all (is_event setup fs) xs) h in
-    let b = inners_read setup fs (n + 1) items count times (before ++ x ∷ []) xs s q.1 in
+    let b = inners_read setup fs (n + 1) items count times (before ++ x ∷ []) xs s q.1 k.1 in
     record {
       line = b.line;
       same =
-          piece_then (body_line setup fs) n (n + 1) (inner_line fs x) (flat_map (inner_line fs) xs) (repeating items count times before) (repeating items count times (before ++ x ∷ [])) (inner_read setup fs n items count times before x s q.0)
+          piece_then (body_line setup fs) n (n + 1) (inner_line fs x) (flat_map (inner_line fs) xs) (repeating items count times before) (repeating items count times (before ++ x ∷ [])) (inner_read setup fs n items count times before x s q.0 k.0)
           ∙ b.same
           ∙ ap (λ (es : List Event). Ok (b.line, repeating items count times es)) (append_assoc before (x ∷ []) xs);
     }
@@ -179,7 +174,7 @@ repeat_cut times h =
     ap spelled (whole (codes "repeat" ++ (32 ∷ decimal times)) _ (behind_word (codes "repeat") (decimal times) (t.Num (Some times) ∷ []) refl refl (number_piece times (low_times times h))))
 
 repeat_feed : (times : ℕ) → no_feed (codes "repeat" ++ (32 ∷ decimal times)) ≡ true
-repeat_feed times = plain_feed (decimal times) (plain_decimal times)
+repeat_feed times = (plain_inline (decimal times) (plain_decimal times)).feed
 
 repeat_opens : (setup : Setup) (fs : List Function) (n : ℕ) (items : List Item) (count times : ℕ) → from_to 1 200000 times ≡ true → plain_scan (body_line setup fs) n ((codes "repeat" ++ (32 ∷ decimal times)) ++ 10 ∷ []) (body items count None) ≡ Ok (n + 1, repeating items count times [])
 unfolding repeating
@@ -207,17 +202,17 @@ record ItemRead (setup : Setup) (fs : List Function) (n : ℕ) (items : List Ite
 repeat_apart : (fs : List Function) (times : ℕ) (xs : List Event) → item_text fs (Repeat times xs) ≡ ((codes "repeat" ++ (32 ∷ decimal times)) ++ 10 ∷ []) ++ (flat_map (inner_line fs) xs ++ codes "end\n")
 repeat_apart fs times xs = simp append_assoc
 
-repeat_read : (setup : Setup) (fs : List Function) (n : ℕ) (items : List Item) (count times : ℕ) (xs : List Event) → Heads setup fs → is_item setup fs (Repeat times xs) ≡ true → count + times * length xs ≤ 200000 → ItemRead setup fs n items count (Repeat times xs)
-repeat_read setup fs n items count times [] s h few =
+repeat_read : (setup : Setup) (fs : List Function) (n : ℕ) (items : List Item) (count times : ℕ) (xs : List Event) → Heads setup fs → is_item setup fs (Repeat times xs) ≡ true → list_all is_clean_event xs ≡ true → count + times * length xs ≤ 200000 → ItemRead setup fs n items count (Repeat times xs)
+repeat_read setup fs n items count times [] s h c few =
     let q = split_true (from_to 1 200000 times && nat_le 1 (length {A = Event} [])) true h in
     let u = split_true (from_to 1 200000 times) (nat_le 1 (length {A = Event} [])) q.0 in
     let e = u.1 in absurd (cc)
-repeat_read setup fs n items count times (x ∷ xs) s h few =
+repeat_read setup fs n items count times (x ∷ xs) s h c few =
     let q = split_true (from_to 1 200000 times && nat_le 1 (length (x ∷ xs))) (list_all (is_event setup fs) (x ∷ xs)) h in
     let u = split_true (from_to 1 200000 times) (nat_le 1 (length (x ∷ xs))) q.0 in
     let take = body_line setup fs in
     let inner = flat_map (inner_line fs) (x ∷ xs) in
-    let b = inners_read setup fs (n + 1) items count times [] (x ∷ xs) s q.1 in
+    let b = inners_read setup fs (n + 1) items count times [] (x ∷ xs) s q.1 c in
     record {
       line = b.line + 1;
       same =
@@ -227,25 +222,26 @@ repeat_read setup fs n items count times (x ∷ xs) s h few =
           ∙ repeat_closes setup fs b.line items count times x xs few;
     }
 
-item_read : (setup : Setup) (fs : List Function) (n : ℕ) (items : List Item) (count : ℕ) (i : Item) → Heads setup fs → is_item setup fs i ≡ true → count + weight i ≤ 200000 → ItemRead setup fs n items count i
-item_read setup fs n items count (One x) s h few = record { line = n + 1; same = one_read setup fs n items count x s h few }
-item_read setup fs n items count (Repeat times xs) s h few = repeat_read setup fs n items count times xs s h few
+item_read : (setup : Setup) (fs : List Function) (n : ℕ) (items : List Item) (count : ℕ) (i : Item) → Heads setup fs → is_item setup fs i ≡ true → is_clean_item i ≡ true → count + weight i ≤ 200000 → ItemRead setup fs n items count i
+item_read setup fs n items count (One x) s h c few = record { line = n + 1; same = one_read setup fs n items count x s h c few }
+item_read setup fs n items count (Repeat times xs) s h c few = repeat_read setup fs n items count times xs s h c few
 
 record ItemsRead (setup : Setup) (fs : List Function) (n : ℕ) (before : List Item) (count : ℕ) (items : List Item) : Type 0 where
   line : ℕ
   total : ℕ
   same : plain_scan (body_line setup fs) n (flat_map (item_text fs) items) (body before count None) ≡ Ok (line, body (before ++ items) total None)
 
-items_read : (setup : Setup) (fs : List Function) (n : ℕ) (before : List Item) (count : ℕ) (items : List Item) → Heads setup fs → list_all (is_item setup fs) items ≡ true → count + weights items ≤ 200000 → ItemsRead setup fs n before count items
-items_read setup fs n before count [] s h few = record {
+items_read : (setup : Setup) (fs : List Function) (n : ℕ) (before : List Item) (count : ℕ) (items : List Item) → Heads setup fs → list_all (is_item setup fs) items ≡ true → list_all is_clean_item items ≡ true → count + weights items ≤ 200000 → ItemsRead setup fs n before count items
+items_read setup fs n before count [] s h c few = record {
   line = n;
   total = count;
   same = ap (λ (is : List Item). Ok (n, body is count None)) (sym (append-nil before));
 }
-items_read setup fs n before count (i ∷ items) s h few =
+items_read setup fs n before count (i ∷ items) s h c few =
+    let k = split_true (is_clean_item i) (list_all is_clean_item items) c in
     let q = split_true (is_item setup fs i) (list_all (is_item setup fs) items) h in
-    let a = item_read setup fs n before count i s q.0 (omega arith) in
-    let b = items_read setup fs a.line (before ++ i ∷ []) (count + weight i) items s q.1 (omega arith) in
+    let a = item_read setup fs n before count i s q.0 k.0 (omega arith) in
+    let b = items_read setup fs a.line (before ++ i ∷ []) (count + weight i) items s q.1 k.1 (omega arith) in
     record {
       line = b.line;
       total = b.total;
@@ -263,6 +259,9 @@ record Origin (plan : Plan) : Type 0 where
   free : name_fault plan.program.functions marks ≡ None
   lines : List ℕ
   apart : objects_fault [] plan.objects lines 0 ≡ None
+  clean_objects : list_all is_clean_object plan.objects ≡ true
+  clean_functions : list_all is_clean_function plan.program.functions ≡ true
+  clean_items : list_all is_clean_item plan.items ≡ true
 
 abbrev made_ok : Plan → Result Plan PlanFault
 made_ok p = Ok p
@@ -270,29 +269,39 @@ made_ok p = Ok p
 inner_plan : (p q : Plan) → made_ok p ≡ made_ok q → p ≡ q
 inner_plan p q e = cc
 
-made_origin : (h : Head) (items : List Item) (fault : Option (ℕ × Kind)) → GoodHead h → head_fault h fault ≡ None → Origin (plan_made h items)
-made_origin h items fault g e =
+made_origin : (h : Head) (items : List Item) (fault : Option (ℕ × Kind)) → GoodHead h → CleanHead h → list_all is_clean_item items ≡ true → head_fault h fault ≡ None → Origin (plan_made h items)
+made_origin h items fault g c i e =
     let a = none_or (objects_fault [] h.objects h.lines 0) (or_else (name_fault h.draft.functions h.draft.marks) fault) e in
     let b = none_or (name_fault h.draft.functions h.draft.marks) fault a.1 in
-    record { good = g.draft.functions; few = few_functions (length h.draft.functions) h.draft.stage g.draft.stage; marks = h.draft.marks; free = b.0; lines = h.lines; apart = a.0 }
+    record {
+      good = g.draft.functions;
+      few = few_functions (length h.draft.functions) h.draft.stage g.draft.stage;
+      marks = h.draft.marks;
+      free = b.0;
+      lines = h.lines;
+      apart = a.0;
+      clean_objects = c.objects;
+      clean_functions = c.draft.functions;
+      clean_items = i;
+    }
 
-named_origin : (h : Head) (items : List Item) (fault o : Option (ℕ × Kind)) (p : Plan) → head_fault h fault ≡ o → GoodHead h → plan_named h items o ≡ Ok p → Origin p
-named_origin h items fault None p e g f = subst Origin (inner_plan (plan_made h items) p f) (made_origin h items fault g e)
-named_origin h items fault (Some x) p e g f = absurd (cc)
+named_origin : (h : Head) (items : List Item) (fault o : Option (ℕ × Kind)) (p : Plan) → head_fault h fault ≡ o → GoodHead h → CleanHead h → list_all is_clean_item items ≡ true → plan_named h items o ≡ Ok p → Origin p
+named_origin h items fault None p e g c i f = subst Origin (inner_plan (plan_made h items) p f) (made_origin h items fault g c i e)
+named_origin h items fault (Some x) p e g c i f = absurd (cc)
 
-stopped_origin : (n : ℕ) (h : Head) (items : List Item) (fault : Option (ℕ × Kind)) (c : Bool) (o : Option Block) (p : Plan) → GoodHead h → stopped n h items fault c o ≡ Ok p → Origin p
-stopped_origin n h items fault true None p g e = named_origin h items fault (head_fault h fault) p refl g e
-stopped_origin n h items fault true (Some block) p g e = absurd (cc)
-stopped_origin n h items fault false o p g e = absurd (cc)
+stopped_origin : (n : ℕ) (h : Head) (items : List Item) (fault : Option (ℕ × Kind)) (c : Bool) (o : Option Block) (p : Plan) → GoodHead h → CleanHead h → list_all is_clean_item items ≡ true → stopped n h items fault c o ≡ Ok p → Origin p
+stopped_origin n h items fault true None p g c i e = named_origin h items fault (head_fault h fault) p refl g c i e
+stopped_origin n h items fault true (Some block) p g c i e = absurd (cc)
+stopped_origin n h items fault false o p g c i e = absurd (cc)
 
-finished_origin : (o : Result (ℕ × PlanDraft) PlanFault) (p : Plan) → FoundGood o → plan_finished o ≡ Ok p → Origin p
-finished_origin (Err f) p g e = absurd (cc)
-finished_origin (Ok q) p g e = stopped_origin q.0 q.1.head q.1.body.items q.1.body.fault (has_ended q.1.head.due) q.1.body.block p g.head e
+finished_origin : (o : Result (ℕ × PlanDraft) PlanFault) (p : Plan) → FoundGood o → IfOk o (λ q. CleanPlan q.1) → plan_finished o ≡ Ok p → Origin p
+finished_origin (Err f) p g c e = absurd (cc)
+finished_origin (Ok q) p g c e = stopped_origin q.0 q.1.head q.1.body.items q.1.body.fault (has_ended q.1.head.due) q.1.body.block p g.head c.head c.body.items e
 
 limited_origin : (text : List ℕ) (c : Bool) (p : Plan) → cond c (Err (refuse 0 kind.Length)) (plan_in text) ≡ Ok p → Origin p
 limited_origin text true p e = absurd (cc)
 limited_origin text false p e =
-    finished_origin (scan plan_line 65536 1 text no_plan) p (lines_good 65536 1 (lines_in text).0 (lines_in text).1 no_plan no_plan_good) e
+    finished_origin (scan plan_line 65536 1 text no_plan) p (scan_good text) (kept CleanPlan plan_line plan_keeps_clean 65536 1 text no_plan no_plan_clean) e
 
 origin : (text : List ℕ) (p : Plan) → plan_of text ≡ Ok p → Origin p
 origin text p e = limited_origin text (nat_lt 1048576 (length text)) p e
@@ -332,7 +341,7 @@ plan_apart plan = sym (append_assoc (head_text plan) (codes "events\n") (flat_ma
 few_weights : (n : ℕ) → nat_le n 200000 ≡ true → 0 + n ≤ 200000
 few_weights n h = let u : n ≤ 200000 = grind (arith, nat_tests, h) in omega arith
 
-pub plan_again : (text : List ℕ) (plan : Plan) → plan_of text ≡ Ok plan → length (plan_text plan) ≤ 1048576 → length (lines_in (plan_text plan)).0 ≤ 65536 → plan_of (plan_text plan) ≡ Ok plan
+pub plan_again : (text : List ℕ) (plan : Plan) → plan_of text ≡ Ok plan → length (plan_text plan) ≤ 1048576 → lines_of (plan_text plan) ≤ 65536 → plan_of (plan_text plan) ≡ Ok plan
 unfolding with_head_alone behind_head
 plan_again text plan e short few =
     let o = origin text plan e in
@@ -343,11 +352,11 @@ plan_again text plan e short few =
     let d = split_true (is_setup plan.setup) (are_objects plan.objects) c.0 in
     let p = split_true (nat_le (length fs) 256 && distinct (names fs)) (list_all (is_function fs) fs) c.1 in
     let s : Heads plan.setup fs = record { setup_is = d.0; program = c.1; names_are = identifiers fs fs p.1 } in
-    let u = plan_utf8 plan o.good s.names_are (plan_texts text plan e) in
+    let u = plan_utf8 plan o.good s.names_are o.clean_objects o.clean_functions o.clean_items in
     let objects = (split_true (distinct (map (λ z. z.0) plan.objects)) (list_all object_test plan.objects) d.1).1 in
     let h = head_again (codes "events") 1 plan events_close d.0 objects o.good o.few in
     let whole_head = headed plan.setup plan.objects h.lines due.Rest (record { functions = fs; marks = h.marks; stage = Between }) in
-    let i = items_read plan.setup fs h.line [] 0 plan.items s b.1 (few_weights (weights plan.items) a.1) in
+    let i = items_read plan.setup fs h.line [] 0 plan.items s b.1 o.clean_items (few_weights (weights plan.items) a.1) in
     let front = head_text plan ++ (codes "events" ++ codes "\n") in
     let rest = flat_map (item_text fs) plan.items in
     let heads = widened (head_line (codes "events")) plan_line with_head_alone head_widens 1 h.line front no_head whole_head h.same in

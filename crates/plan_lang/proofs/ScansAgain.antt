@@ -1,5 +1,6 @@
 -- A text is read in pieces, line by line.
-use Rattle.std.proofs.Common.{◌≡◌, ℕ, suc, ◌+◌, ◌<◌, ◌≤◌, Bool, true, false, cond, eqb, ltb, List, [], ◌∷◌, ◌++◌, length, take, drop, get_or, Result, Ok, Err, refl, sym, ap, ◌∙◌, subst, append_assoc, length-append, arith}
+use Rattle.std.proofs.Common.{◌≡◌, ℕ, suc, ◌+◌, ◌<◌, ◌≤◌, Bool, true, false, cond, eqb, ltb, List, [], ◌∷◌, ◌++◌, length, take, drop, get_or, Option, Some, None, Result, Ok, Err, refl, sym, ap, ◌∙◌, subst, append_assoc, length-append, arith}
+use Rattle.std.specs.Prelude.{IfOk, option_and_then}
 use Rattle.std.specs.Str.{IsUtf8}
 use Rattle.std.proofs.lemmas.Bool.Decides.{nat_tests}
 use Rattle.std.proofs.lemmas.List.{append-nil}
@@ -9,13 +10,16 @@ use Rattle.boki_types.specs.declared.kind.Kind.TheVariants as kind
 use Rattle.script_lang.specs.declared.lines.Line.{Line}
 use Rattle.script_lang.specs.declared.lines.Line.TheVariants as l
 use Rattle.script_lang.specs.declared.token.Token.{Token}
+use Rattle.script_lang.specs.declared.rated.Rated.{Rated}
+use Rattle.script_lang.specs.declared.rated.Rated.TheVariants as r
+use Rattle.script_lang.specs.Tokens.{tokens_in}
 use Rattle.script_lang.specs.Lines.{lines_in, onto, line_of, text_in}
 use Rattle.script_lang.proofs.GoodStmts.{AllOf}
 use Rattle.script_lang.proofs.LineLemmas.{text_is}
 use Rattle.script_lang.proofs.ProgramAgain.{first_line_is}
 use Rattle.script_lang.proofs.RelexedLines.{no_feed}
 use Rattle.plan_lang.specs.declared.fault.PlanFault.{PlanFault}
-use Rattle.plan_lang.specs.Texts.{Takes, refuse, line_by, spelled_line, read_line, whole_line, goes_on, lines_from, scan}
+use Rattle.plan_lang.specs.Texts.{Takes, refuse, line_by, spelled_line, read_line, whole_line, goes_on, lines_from, scan, lines_of}
 
 -- Lines one after another, of any number, and of any bytes.
 abbrev pub plain_from : {D : Type 0} → Takes D → ℕ → List (List ℕ) → List ℕ → D → Result (ℕ × D) PlanFault
@@ -92,6 +96,19 @@ line_read take n a d next f e =
     ap (λ (p : List (List ℕ) × List ℕ). plain_from take n p.0 p.1 d) (first_line_is a [] f)
     ∙ ap (goes_on (plain_from take (n + 1) [] []) n) e
 
+-- a text whose tokens are read as this
+pub record ReadsBack {A : Type 0} (read : List Token → Option (Rated A)) (text : List ℕ) (x : A) : Type 0 where
+  pub tokens : List Token
+  pub cut : tokens_in text ≡ Some tokens
+  pub back : read tokens ≡ Some (r.Fine x)
+
+reads_by : {A : Type 0} (read : List Token → Option (Rated A)) (text : List ℕ) (x : A) (o : Option (List Token)) → tokens_in text ≡ o → option_and_then read o ≡ Some (r.Fine x) → ReadsBack read text x
+reads_by read text x None e h = absurd (cc)
+reads_by read text x (Some ts) e h = record { tokens = ts; cut = e; back = h }
+
+pub reads_back : {A : Type 0} (read : List Token → Option (Rated A)) (text : List ℕ) (x : A) → option_and_then read (tokens_in text) ≡ Some (r.Fine x) → ReadsBack read text x
+reads_back read text x h = reads_by read text x (tokens_in text) refl h
+
 -- a line of these tokens
 pub tokens_read : {D : Type 0} (take : Takes D) (n : ℕ) (a : List ℕ) (ts : List Token) (d next : D) → no_feed a ≡ true → line_of a ≡ l.Tokens ts → take n ts d ≡ Ok next → plain_scan take n (a ++ 10 ∷ []) d ≡ Ok (n + 1, next)
 tokens_read take n a ts d next f e h =
@@ -129,7 +146,7 @@ FrontUtf8 : List ℕ → List (List ℕ) → Type 0
 FrontUtf8 w [] = Unit {0}
 FrontUtf8 w (line ∷ lines) = IsUtf8 (w ++ line) × AllOf IsUtf8 lines
 
-pub take_front : (a b : List ℕ) → take (length a) (a ++ b) ≡ a
+take_front : (a b : List ℕ) → take (length a) (a ++ b) ≡ a
 take_front [] b = refl
 take_front (c ∷ cs) b = ap (λ l. c ∷ l) (take_front cs b)
 
@@ -147,12 +164,12 @@ at_front : (a b : List ℕ) → get_or (a ++ 10 ∷ b) (length a) 0 ≡ 10
 at_front [] b = refl
 at_front (c ∷ cs) b = at_front cs b
 
-pub utf8_before : (a b : List ℕ) → IsUtf8 (a ++ 10 ∷ b) → IsUtf8 a
+utf8_before : (a b : List ℕ) → IsUtf8 (a ++ 10 ∷ b) → IsUtf8 a
 utf8_before a b h =
     let within : length a < length (a ++ 10 ∷ b) = omega (arith, length-append a (10 ∷ b)) in
     subst IsUtf8 (take_front a (10 ∷ b)) (IsUtf8-take (a ++ 10 ∷ b) (length a) h (IsCharBoundary-before_ascii (a ++ 10 ∷ b) (length a) within (omega (arith, at_front a b))))
 
-pub utf8_after : (a b : List ℕ) → IsUtf8 (a ++ 10 ∷ b) → IsUtf8 b
+utf8_after : (a b : List ℕ) → IsUtf8 (a ++ 10 ∷ b) → IsUtf8 b
 utf8_after a b h =
     let within : length a < length (a ++ 10 ∷ b) = omega (arith, length-append a (10 ∷ b)) in
     subst IsUtf8 (drop_more a b) (IsUtf8-drop (a ++ 10 ∷ b) (length a + 1) h (IsCharBoundary-after_ascii (a ++ 10 ∷ b) (length a) h within (omega (arith, at_front a b))))
@@ -201,6 +218,25 @@ within_from take most n (line ∷ ls) rest d found u l h =
     goes_within (plain_from take (n + 1) ls rest) (lines_from take most (n + 1) ls rest) n (spelled_line take n (line_of line) d) (whole_line take most n line d) found
     (line_within take most n line d (omega arith) u.0) (λ x g. within_from take most (n + 1) ls rest x found u.1 (omega arith) g) h
 
-pub within_limits : {D : Type 0} (take : Takes D) (most n : ℕ) (text : List ℕ) (d : D) (found : ℕ × D) → IsUtf8 text → n + length (lines_in text).0 ≤ most + 1 → plain_scan take n text d ≡ Ok found → scan take most n text d ≡ Ok found
+pub within_limits : {D : Type 0} (take : Takes D) (most n : ℕ) (text : List ℕ) (d : D) (found : ℕ × D) → IsUtf8 text → n + lines_of text ≤ most + 1 → plain_scan take n text d ≡ Ok found → scan take most n text d ≡ Ok found
 within_limits take most n text d found u l h =
     within_from take most n (lines_in text).0 (lines_in text).1 d found (all_utf8 (lines_in text).0 (front_utf8 [] text u)) l h
+
+-- A scan that ends has gone over all lines.
+abbrev Counted : {D : Type 0} → ℕ → Found D → Type 0
+Counted n o = IfOk o (λ p. p.0 ≡ n)
+
+count_on : {D : Type 0} (others : D → Found D) (n k : ℕ) (o : Result D Kind) → ((d : D) → Counted k (others d)) → Counted k (goes_on others n o)
+count_on others n k (Err e) h = tt
+count_on others n k (Ok d) h = h d
+
+count_lines : {D : Type 0} (take : Takes D) (n k : ℕ) (ls : List (List ℕ)) (rest : List ℕ) (d : D) → n + length ls ≡ k → Counted k (plain_from take n ls rest d)
+count_lines take n k [] [] d e = omega arith
+count_lines take n k [] (c ∷ cs) d e = tt
+count_lines take n k (line ∷ ls) rest d e =
+    count_on (plain_from take (n + 1) ls rest) n k (spelled_line take n (line_of line) d) (λ next. count_lines take (n + 1) k ls rest next (omega arith))
+
+pub scan_count : {D : Type 0} (take : Takes D) (n : ℕ) (text : List ℕ) (d : D) (found : ℕ × D) → plain_scan take n text d ≡ Ok found → found.0 ≡ n + lines_of text
+scan_count {D} take n text d found e =
+    let P : Found D → Type 0 = λ o. Counted (n + lines_of text) o in
+    subst P e (count_lines take n (n + lines_of text) (lines_in text).0 (lines_in text).1 d refl)

@@ -1,10 +1,9 @@
 -- The canonical text of turns is read again as these turns.
-use Rattle.std.proofs.Common.{◌≡◌, ℕ, ◌+◌, ◌≤◌, true, List, [], ◌∷◌, length, map, None, Result, Ok, refl, sym, ap, ◌∙◌, subst, arith}
-use Rattle.std.specs.Prelude.{◌&&◌, IfOk, codes, flat_map, nat_le}
+use Rattle.std.proofs.Common.{◌≡◌, ℕ, ◌+◌, ◌≤◌, true, List, [], ◌∷◌, length, map, None, Ok, refl, sym, ap, ◌∙◌, subst, arith}
+use Rattle.std.specs.Prelude.{◌&&◌, codes, flat_map, nat_le}
 use Rattle.std.specs.List.{list_all}
 use Rattle.std.specs.Str.{IsUtf8}
 use Rattle.std.proofs.lemmas.Str.{IsUtf8-append}
-use Rattle.boki_types.specs.declared.kind.Kind.{Kind}
 use Rattle.boki_types.specs.declared.plan.Plan.{Plan}
 use Rattle.boki_types.specs.declared.program.Function.{Function}
 use Rattle.boki_types.specs.declared.turn.Turn.{Turn}
@@ -13,32 +12,28 @@ use Rattle.boki_model.specs.Bodies.{is_identifier}
 use Rattle.boki_model.specs.Plans.{names, distinct, is_function, is_program}
 use Rattle.script_lang.specs.declared.draft.Draft.{Draft}
 use Rattle.script_lang.specs.declared.draft.Stage.TheVariants.{Between}
-use Rattle.script_lang.specs.declared.lines.Line.{Line}
 use Rattle.script_lang.specs.Names.{name_fault, or_else}
-use Rattle.script_lang.proofs.GoodDrafts.{line_good}
 use Rattle.script_lang.proofs.GoodNames.{functions_pass}
 use Rattle.script_lang.proofs.ProgramAgain.{functions_free}
 use Rattle.plan_lang.specs.declared.heads.Due.TheVariants as due
 use Rattle.plan_lang.specs.declared.heads.Head.{Head}
 use Rattle.plan_lang.specs.Heads.{head_line, has_ended, no_head, objects_fault}
-use Rattle.plan_lang.specs.Printed.{head_text, turn_line as printed_line}
-use Rattle.plan_lang.specs.Texts.{head_fault, plan_made}
-use Rattle.plan_lang.specs.Turns.{turn_line, no_turns, turns_named, turns_stopped, turns_finished, turns_of}
-use Rattle.plan_lang.specs.TurnTexts.{is_turn, front_text, turns_text, lines_of, numbered, renumbered}
-use Rattle.plan_lang.proofs.CleanHeads.{CleanHead, head_clean, no_head_clean}
+use Rattle.plan_lang.specs.Printed.{head_text, turn_text, turn_line as printed_line}
+use Rattle.plan_lang.specs.Texts.{head_fault, plan_made, lines_of}
+use Rattle.plan_lang.specs.Turns.{callless, turn_of, turn_line, no_turns, turns_named, turns_stopped, turns_finished, turns_of}
+use Rattle.plan_lang.specs.TurnTexts.{is_turn, front_text, turns_text, numbered, renumbered}
 use Rattle.plan_lang.proofs.CleanTurns.{is_clean_turn}
 use Rattle.plan_lang.proofs.EventsAgain.{identifiers}
 use Rattle.plan_lang.proofs.GoodFields.{split_true}
-use Rattle.plan_lang.proofs.GoodPlans.{GoodHead, due_good, no_head_good, none_or, few_functions}
+use Rattle.plan_lang.proofs.GoodPlans.{GoodHead, none_or, few_functions}
 use Rattle.plan_lang.proofs.HeadsAgain.{headed, turns_close, head_again}
-use Rattle.plan_lang.proofs.HeadsUtf8.{head_utf8}
 use Rattle.plan_lang.proofs.PlanLemmas.{turns_short}
 use Rattle.plan_lang.proofs.PlansAgain.{objects_free}
-use Rattle.plan_lang.proofs.ScansAgain.{plain_scan, piece_then, widened, within_limits}
-use Rattle.plan_lang.proofs.TurnLines.{one_utf8, plain, turn_inline, reads_back}
-use Rattle.plan_lang.proofs.TurnScans.{scan_count, drafted, AllPrintable, scan_turns, turns_utf8, head_widens, turn_test, Keeps, origin}
+use Rattle.plan_lang.proofs.PrintedLines.{plain_inline, turn_inline}
+use Rattle.plan_lang.proofs.PrintedUtf8.{line_utf8, head_utf8}
+use Rattle.plan_lang.proofs.ScansAgain.{plain_scan, piece_then, reads_back, scan_count, widened, within_limits}
+use Rattle.plan_lang.proofs.TurnScans.{drafted, AllPrintable, scan_turns, turns_utf8, head_widens, turn_test, ReadHead, origin}
 use Rattle.plan_lang.proofs.TurnsAgain.{turn_again}
-use Rattle.plan_lang.proofs.Utf8Tokens.{are_clean, CleanLine, line_clean}
 
 -- The turns are printed well.
 all_printable : (fs : List Function) (turns : List (ℕ × Turn)) → distinct (names fs) ≡ true → list_all is_identifier (names fs) ≡ true → list_all (turn_test fs) turns ≡ true → AllPrintable fs (map (λ p. p.1) turns)
@@ -46,7 +41,7 @@ all_printable fs [] d i h = tt
 all_printable fs (p ∷ ps) d i h =
     let s = split_true (is_turn fs p.1 && is_clean_turn p.1) (list_all (turn_test fs) ps) h in
     let k = split_true (is_turn fs p.1) (is_clean_turn p.1) s.0 in
-    (record { line = turn_inline fs p.1 d i k.0 k.1; back = reads_back fs p.1 (turn_again fs p.1 d i k.0) }, all_printable fs ps d i s.1)
+    (record { line = turn_inline fs p.1 i k.1; back = reads_back (turn_of fs) (turn_text fs p.1) (callless p.1) (turn_again fs p.1 d i k.0) }, all_printable fs ps d i s.1)
 
 pub turns_printable : (fs : List Function) (turns : List (ℕ × Turn)) → is_program (record { functions = fs }) ≡ true → list_all (turn_test fs) turns ≡ true → AllPrintable fs (map (λ p. p.1) turns)
 turns_printable fs turns p h =
@@ -90,22 +85,6 @@ turns_again t f p short few =
     ∙ ap (λ (q : Plan). Ok (record { plan = q; turns = numbers })) f.plan_is
     ∙ ap (λ (n : ℕ). Ok (record { plan = t.plan; turns = numbered n xs })) line
 
--- What is known of a head of turns: it is within the limits, and its texts are UTF-8.
-record ReadHead (h : Head) : Type 0 where
-  good : GoodHead h
-  clean : CleanHead h
-
-keeps : Keeps ReadHead
-keeps n line ts h next u e g k =
-    let P : Result Head Kind → Type 0 = λ o. IfOk o GoodHead in
-    let Q : Result Head Kind → Type 0 = λ o. IfOk o CleanHead in
-    let C : Line → Type 0 = λ o. CleanLine o in
-    let c : are_clean ts ≡ true = subst C e (line_clean line u) in
-    record {
-      good = subst P k (due_good (codes "turns") n ts h h.due (line_good line ts e) g.good);
-      clean = subst Q k (head_clean (codes "turns") n ts h c g.clean);
-    }
-
 is_one : (h : Head) → GoodHead h → name_fault h.draft.functions h.draft.marks ≡ None → is_program (record { functions = h.draft.functions }) ≡ true
 is_one h g free = functions_pass h.draft.functions h.draft.marks g.draft.functions (few_functions (length h.draft.functions) h.draft.stage g.draft.stage) free
 
@@ -117,7 +96,7 @@ front_read h g apart free =
     let few = few_functions (length fs) h.draft.stage g.good.draft.stage in
     let a = head_again (codes "turns") 1 plan turns_close g.good.setup g.good.objects g.good.draft.functions few in
     let d : Draft = record { functions = fs; marks = a.marks; stage = Between } in
-    let turns : IsUtf8 (codes "turns\n") = IsUtf8-append (codes "turns") (codes "\n") ((plain (codes "turns") refl).utf8) (one_utf8 10 (omega arith)) in
+    let turns : IsUtf8 (codes "turns\n") = line_utf8 (codes "turns") (plain_inline (codes "turns") refl) in
     record {
       line = a.line;
       head = headed h.setup h.objects a.lines due.Rest d;
@@ -127,18 +106,17 @@ front_read h g apart free =
           ap (λ z. or_else z (or_else (name_fault fs a.marks) None)) (objects_free [] h.objects h.lines a.lines 0 0 apart)
           ∙ ap (λ z. or_else z None) (functions_free fs fs h.draft.marks a.marks 0 free);
       plan_is = refl;
-      utf8 = IsUtf8-append (head_text plan) (codes "turns\n") (head_utf8 plan g.good.setup g.good.objects g.clean.objects g.good.draft.functions g.clean.draft.functions) turns;
+      utf8 = IsUtf8-append (head_text plan) (codes "turns\n") (head_utf8 plan g.clean.objects g.good.draft.functions g.clean.draft.functions) turns;
     }
 
 pub printed_turns : (text : List ℕ) (t : TurnText) → turns_of text ≡ Ok t → length (turns_text t) ≤ 16777216 → lines_of (turns_text t) ≤ 300000 → turns_of (turns_text t) ≡ Ok (renumbered t)
 printed_turns text t e short few =
-    let start : ReadHead no_head = record { good = no_head_good; clean = no_head_clean } in
-    let o = origin ReadHead keeps start text t e in
+    let o = origin text t e in
     let h = o.head in
     let a = none_or (objects_fault [] h.objects h.lines 0) (or_else (name_fault h.draft.functions h.draft.marks) None) o.free in
     let b = none_or (name_fault h.draft.functions h.draft.marks) None a.1 in
-    let front = subst FrontRead o.plan (front_read h o.good a.0 b.0) in
+    let front = subst FrontRead o.plan (front_read h o.read a.0 b.0) in
     let same : h.draft.functions ≡ t.plan.program.functions = ap (λ (q : Plan). q.program.functions) o.plan in
-    let printable = turns_printable h.draft.functions t.turns (is_one h o.good.good b.0) o.turns in
+    let printable = turns_printable h.draft.functions t.turns (is_one h o.read.good b.0) o.turns in
     let P : List Function → Type 0 = λ fs. AllPrintable fs (map (λ p. p.1) t.turns) in
     turns_again t front (subst P same printable) short few

@@ -76,7 +76,7 @@ go_by path n h l =
     ap (λ (o : Option (Rated (List ℕ) × List Token)). option_and_then (λ (p : Rated (List ℕ) × List Token). option_and_then (λ (x : Rated ℕ × List Token). alone x.1 (map_rated (λ (q : List ℕ × ℕ). callless (u.Go q.0 q.1)) (both p.0 x.0))) (number_at 0 200000 p.1)) o) (path_again path (t.Num (Some n) ∷ []) h)
     ∙ ap (λ x. Some x) (two_fine (λ (q : List ℕ × ℕ). callless (u.Go q.0 q.1)) path n true (from_to 0 200000 n) refl l)
 
-pub low_count : (n : ℕ) → from_to 0 200000 n ≡ true → n < 2 ^ 64
+low_count : (n : ℕ) → from_to 0 200000 n ≡ true → n < 2 ^ 64
 low_count n h = grind (arith, nat_tests, h)
 
 go_again : (fs : List Function) (path : List ℕ) (n : ℕ) → is_path path ≡ true → from_to 0 200000 n ≡ true → Again fs (u.Go path n)

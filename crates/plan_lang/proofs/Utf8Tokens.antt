@@ -20,10 +20,15 @@ use Rattle.script_lang.specs.declared.token.Token.TheVariants as t
 use Rattle.script_lang.specs.Lines.{line_of, line_behind, spelled}
 use Rattle.script_lang.specs.Tokens.{is_letter, span, number, with_rest, quoted_token, key_of, named_by, word_token, double, single, symbol_by, token_at, with_token, lex, lex_on, lex_by, tokens_in}
 use Rattle.script_lang.proofs.FrontLemmas.{behind_span, text_behind}
+use Rattle.plan_lang.proofs.GoodFields.{both_true}
+
+-- a text that UTF-8 spells where it is quoted
+abbrev pub is_clean_text : List ℕ → Bool
+is_clean_text x = is_utf8 (quoted x)
 
 -- a token that is no quoted text, or one that UTF-8 spells
 abbrev pub is_clean : Token → Bool
-is_clean (t.Text x) = is_utf8 (quoted x)
+is_clean (t.Text x) = is_clean_text x
 is_clean _ = true
 
 abbrev pub are_clean : List Token → Bool
@@ -34,9 +39,6 @@ Clean o = IfSome o (λ x. is_clean x ≡ true)
 
 abbrev CleanFirst : Option (Token × List ℕ) → Type 0
 CleanFirst o = IfSome o (λ p. is_clean p.0 ≡ true)
-
-both_true : (a b : Bool) → a ≡ true → b ≡ true → (a && b) ≡ true
-both_true a b h k = rw h k
 
 -- A quoted text of a text in UTF-8 is cut off at a character.
 quoted_by : (text : List ℕ) (o : Option (List ℕ × List ℕ)) → IsUtf8 text → IfSome o (λ q. text ≡ quoted q.0 ++ q.1) → IfSome o (λ q. IsCharBoundary text (length text - length q.1) × (drop (length text - length q.1) text ≡ q.1)) → CleanFirst (quoted_token o)

@@ -68,6 +68,10 @@ lines_from take most n (line ∷ lines) rest d = goes_on (lines_from take most (
 abbrev pub scan : {D : Type 0} → Takes D → ℕ → ℕ → List ℕ → D → Result (ℕ × D) PlanFault
 scan take most n text d = lines_from take most n (lines_in text).0 (lines_in text).1 d
 
+-- how many lines of a text end in a line feed
+abbrev pub lines_of : List ℕ → ℕ
+lines_of text = length (lines_in text).0
+
 -- A plan: its head, and then its events.
 abbrev pub with_head : PlanDraft → Result Head Kind → Result PlanDraft Kind
 with_head d (Err k) = Err k

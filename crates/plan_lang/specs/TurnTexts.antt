@@ -10,9 +10,9 @@ use Rattle.boki_types.specs.declared.turn.TurnText.{TurnText}
 use Rattle.boki_types.specs.Finding.{function_at}
 use Rattle.boki_model.specs.Bodies.{is_value}
 use Rattle.boki_model.specs.Plans.{from_to, has_arity}
-use Rattle.script_lang.specs.Lines.{lines_in}
 use Rattle.script_lang.specs.Printed.{◌&◌}
 use Rattle.plan_lang.specs.Printed.{head_text, turn_line}
+use Rattle.plan_lang.specs.Texts.{lines_of}
 
 -- a turn that a text with these functions can have
 abbrev pub is_turn : List Function → Turn → Bool
@@ -26,10 +26,6 @@ front_text plan = head_text plan & codes "turns\n"
 
 abbrev pub turns_text : TurnText → List ℕ
 turns_text t = front_text t.plan & flat_map (turn_line t.plan.program.functions) (map (λ p. p.1) t.turns)
-
--- how many lines of a text end in a line feed
-abbrev pub lines_of : List ℕ → ℕ
-lines_of text = length (lines_in text).0
 
 -- the turns with the numbers of their lines, from the number n on
 abbrev pub numbered : ℕ → List Turn → List (ℕ × Turn)

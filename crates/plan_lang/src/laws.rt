@@ -10,14 +10,13 @@ ghost use Rattle.boki_types.specs.declared.turn.TurnText.{TurnText};
 ghost use Rattle.boki_model.specs.Plans.{is_setup, is_program, is_event, is_plan};
 ghost use Rattle.script_lang.specs.declared.rated.Rated.TheVariants.{Fine};
 ghost use Rattle.script_lang.specs.declared.token.Token.{Token};
-ghost use Rattle.script_lang.specs.Lines.{lines_in};
 ghost use Rattle.script_lang.specs.Tokens.{tokens_in};
 ghost use Rattle.plan_lang.specs.declared.events.Entry.{Entry};
 ghost use Rattle.plan_lang.specs.declared.turns.TurnEntry.{TurnEntry};
 ghost use Rattle.plan_lang.specs.Events.{entry_of};
 ghost use Rattle.plan_lang.specs.Printed.{event_text, plan_text, turn_text};
-ghost use Rattle.plan_lang.specs.Texts.{plan_of};
-ghost use Rattle.plan_lang.specs.TurnTexts.{is_turn, turns_text, lines_of, renumbered};
+ghost use Rattle.plan_lang.specs.Texts.{lines_of, plan_of};
+ghost use Rattle.plan_lang.specs.TurnTexts.{is_turn, turns_text, renumbered};
 ghost use Rattle.plan_lang.specs.Turns.{turn_of, turns_of};
 
 /// An event that is read below a setup and functions, and whose call has no fault, is one that a plan with these can have.
@@ -37,7 +36,7 @@ pub fn printed_event_is_read_again()
 
 /// The canonical text of a plan that a text spells is read again as this plan, where it is within the limits of a text.
 pub fn printed_plan_is_read_again()
-    ensures { (text : List ℕ) (plan : Plan) → plan_of text ≡ Ok plan → length (plan_text plan) ≤ 1048576 → length (lines_in (plan_text plan)).0 ≤ 65536 → plan_of (plan_text plan) ≡ Ok plan }
+    ensures { (text : List ℕ) (plan : Plan) → plan_of text ≡ Ok plan → length (plan_text plan) ≤ 1048576 → lines_of (plan_text plan) ≤ 65536 → plan_of (plan_text plan) ≡ Ok plan }
 {}
 
 /// The printed line of a turn that a text with these functions can have is read again as this turn.
