@@ -4,8 +4,10 @@ pub mod CleanStmts
 pub mod CleanTurns
 pub mod DotLemmas
 pub mod EventsAgain
+pub mod EventsTold
 pub mod FewLemmas
 pub mod FieldsAgain
+pub mod FieldsTold
 pub mod FlatLemmas
 pub mod GoodFields
 pub mod GoodEvents
