@@ -6,8 +6,14 @@ pub mod CleanStmts
 pub mod CleanTurns
 pub mod DotLemmas
 pub mod EventsAgain
+pub mod EventsTold
 pub mod FewLemmas
 pub mod FieldsAgain
+<<<<<<< HEAD
+=======
+pub mod FieldsTold
+pub mod FlatLemmas
+>>>>>>> c37a0fee45749a9ec17acc178c2c820b74ca950c
 pub mod GoodFields
 pub mod GoodEvents
 pub mod GoodPlans

@@ -6,4 +6,5 @@ pub mod Texts
 pub mod Turns
 pub mod TurnTexts
 pub mod Printed
+pub mod Typed
 pub mod Generated

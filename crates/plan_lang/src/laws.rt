@@ -18,6 +18,7 @@ ghost use Rattle.plan_lang.specs.Printed.{event_text, plan_text, turn_text};
 ghost use Rattle.plan_lang.specs.Texts.{lines_of, plan_of};
 ghost use Rattle.plan_lang.specs.TurnTexts.{is_turn, turns_text, renumbered};
 ghost use Rattle.plan_lang.specs.Turns.{turn_of, turns_of};
+ghost use Rattle.plan_lang.specs.Typed.{is_typed};
 
 /// An event that is read below a setup and functions, and whose call has no fault, is one that a plan with these can have.
 pub fn read_event_is_one()
@@ -32,6 +33,11 @@ pub fn read_plan_is_one()
 /// The printed line of an event that a plan with this setup and these functions can have is read again as this event.
 pub fn printed_event_is_read_again()
     ensures { (setup : Setup) (fs : List Function) (x : Event) → is_setup setup ≡ true → is_program (record { functions = fs }) ≡ true → is_event setup fs x ≡ true → option_and_then (entry_of setup fs) (tokens_in (event_text fs x)) ≡ Some (Fine (record { event = x; fault = None })) }
+{}
+
+/// An event whose printed line is read below a setup and functions, and whose call has no fault there, is one that a plan with these can have.
+pub fn event_read_again_is_one()
+    ensures { (setup : Setup) (fs : List Function) (e : Event) (x : Entry) → is_setup setup ≡ true → is_program (record { functions = fs }) ≡ true → is_typed e ≡ true → option_and_then (entry_of setup fs) (tokens_in (event_text fs e)) ≡ Some (Fine x) → x.fault ≡ None → is_event setup fs e ≡ true }
 {}
 
 /// The canonical text of a plan that a text spells is read again as this plan, where it is within the limits of a text.

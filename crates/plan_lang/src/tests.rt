@@ -1,5 +1,5 @@
 use crate::{
-    Event, Plan, PlanFault, Report, Turn, TurnText, make_plan, parse_plan, parse_turns,
+    Event, Kind, Plan, PlanFault, Report, Turn, TurnText, make_plan, parse_plan, parse_turns,
     print_event, print_plan, print_report, print_turn, valid,
 };
 use lb_base::{List, Memory, Mode, Outcome, Path, Tag, Value, Words};
@@ -138,6 +138,11 @@ fn refuses_texts(rt: HostRuntime) -> Result<(), Fail> {
         assert_eq!(rt; refusal(alloc, text.as_str())?.as_str(), want, "at {entry}");
     }
     assert_eq!(rt; refusal_of(alloc, &[255, 10])?.as_str(), "1 utf8");
+    let fault = PlanFault::Refused {
+        line: 3,
+        kind: Kind::Syntax,
+    };
+    assert_eq!(rt; format!(in alloc; "{fault}")?.as_str(), "line 3 is refused: syntax");
     Ok(())
 }
 
