@@ -9,11 +9,7 @@ pub mod EventsAgain
 pub mod EventsTold
 pub mod FewLemmas
 pub mod FieldsAgain
-<<<<<<< HEAD
-=======
 pub mod FieldsTold
-pub mod FlatLemmas
->>>>>>> c37a0fee45749a9ec17acc178c2c820b74ca950c
 pub mod GoodFields
 pub mod GoodEvents
 pub mod GoodPlans
