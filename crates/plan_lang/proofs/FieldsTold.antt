@@ -1,5 +1,5 @@
 -- Printed fields of an event, in a plan's range or not: they are cut into tokens, and nothing but them is read of these.
-use Rattle.std.proofs.Common.{◌≡◌, ℕ, ◌<◌, ◌^◌, true, List, [], ◌∷◌, ◌++◌, length, Some, refl, sym, ap, subst, append_assoc, length-append, arith, zero, suc, ◌-◌, Bool, false, cond, Option, None, option_map, ◌∙◌, pos, negsuc}
+use Rattle.std.proofs.Common.{◌≡◌, ℕ, ◌<◌, ◌^◌, true, List, [], ◌∷◌, ◌++◌, length, Some, refl, sym, ap, subst, append_assoc, length-append, arith, zero, suc, Bool, false, cond, Option, None, option_map, ◌∙◌, pos, negsuc}
 use Rattle.std.specs.Prelude.{codes, flat_map, nat_lt, option_and_then, nat_le}
 use Rattle.std.specs.List.{list_all}
 use Rattle.std.specs.Fmt.{decimal}
