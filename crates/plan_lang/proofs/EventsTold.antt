@@ -16,7 +16,7 @@ use Rattle.boki_types.specs.declared.plan.Setup.{Setup}
 use Rattle.boki_types.specs.declared.program.Function.{Function}
 use Rattle.boki_types.specs.Finding.{function_at}
 use Rattle.boki_model.specs.Bodies.{is_identifier}
-use Rattle.boki_model.specs.Plans.{is_setup, is_user_tag, is_word, has_arity, names, distinct, is_function, is_program, is_event}
+use Rattle.boki_model.specs.Plans.{is_user_tag, is_word, has_arity, names, distinct, is_function, is_program, is_event}
 use Rattle.script_lang.specs.declared.token.Token.{Token}
 use Rattle.script_lang.specs.declared.token.Token.TheVariants as t
 use Rattle.script_lang.specs.declared.rated.Rated.{Rated}
@@ -357,8 +357,8 @@ told setup fs (e.SetAux n o text) d i h = let p = split_true _ _ h in set_aux_to
 told setup fs (e.GetAux n o) d i h = let p = split_true _ _ h in get_aux_told setup fs n o.0 p.0 p.1
 told setup fs (e.Seed n) d i h = seed_told setup fs n h
 
-pub told_event : (setup : Setup) (fs : List Function) (x : Event) (y : Entry) → is_setup setup ≡ true → is_program (record { functions = fs }) ≡ true → is_typed x ≡ true → option_and_then (entry_of setup fs) (tokens_in (event_text fs x)) ≡ Some (r.Fine y) → y.fault ≡ None → is_event setup fs x ≡ true
-told_event setup fs x y s p h read none =
+pub told_event : (setup : Setup) (fs : List Function) (x : Event) (y : Entry) → is_program (record { functions = fs }) ≡ true → is_typed x ≡ true → option_and_then (entry_of setup fs) (tokens_in (event_text fs x)) ≡ Some (r.Fine y) → y.fault ≡ None → is_event setup fs x ≡ true
+told_event setup fs x y p h read none =
     let a = split_true (nat_le (length fs) 256 && distinct (names fs)) (list_all (is_function fs) fs) p in
     let b = split_true (nat_le (length fs) 256) (distinct (names fs)) a.0 in
     by_told setup fs x y (told setup fs x b.1 (identifiers fs fs a.1) h) read none

@@ -37,7 +37,7 @@ pub fn printed_event_is_read_again()
 
 /// An event whose printed line is read below a setup and functions, and whose call has no fault there, is one that a plan with these can have.
 pub fn event_read_again_is_one()
-    ensures { (setup : Setup) (fs : List Function) (e : Event) (x : Entry) → is_setup setup ≡ true → is_program (record { functions = fs }) ≡ true → is_typed e ≡ true → option_and_then (entry_of setup fs) (tokens_in (event_text fs e)) ≡ Some (Fine x) → x.fault ≡ None → is_event setup fs e ≡ true }
+    ensures { (setup : Setup) (fs : List Function) (e : Event) (x : Entry) → is_program (record { functions = fs }) ≡ true → is_typed e ≡ true → option_and_then (entry_of setup fs) (tokens_in (event_text fs e)) ≡ Some (Fine x) → x.fault ≡ None → is_event setup fs e ≡ true }
 {}
 
 /// The canonical text of a plan that a text spells is read again as this plan, where it is within the limits of a text.
