@@ -11,6 +11,7 @@ use std::alloc::Global;
 use std::marker::Brand;
 use std::process::Abort;
 use std::sync::Wait;
+use std::sync::atomic::{AtomicU64, Ordering};
 use std::test::Fail;
 use std::thread;
 use std::thread::Threads;
@@ -175,7 +176,7 @@ fn two_in_turn<J: Naming, R: Wait + Abort>(
         told: 2,
         covered: 2,
     };
-    assert_eq!(rt; answers, Some(right));
+    assert_eq!(rt; answers.ok_or("memory")?, right);
     let expected = [
         (1, record(alloc, 256, "a", None)?),
         (2, record(alloc, 256, "b", None)?),
@@ -268,8 +269,7 @@ fn is_right(before: Reads, after: Reads, caught: Result<u64, LiveFault>, records
     }
 }
 
-// The engines append, learn and look in turn, so many times. Answers how many looks were refused, or None where a call was not
-// right.
+// The engines append, learn and look in turn, so many times. Answers how many looks were refused and how many were not right.
 fn rounds_of<J: Naming, D: Door, R: Wait>(
     rt: &R,
     alloc: Global,
@@ -277,10 +277,11 @@ fn rounds_of<J: Naming, D: Door, R: Wait>(
     engines: &mut [LiveEngine<J>],
     door: &mut D,
     rounds: u64,
-) -> Option<u64>
+) -> Option<(u64, u64)>
     requires { 0 < length engines.old }
 {
     let mut refused: u64 = 0;
+    let mut wrong: u64 = 0;
     for round in 0..rounds {
         let engine = &mut engines[round as usize % engines.len()];
         log.append(rt, engine, record(alloc, 256, "t", None).ok()?)
@@ -288,14 +289,16 @@ fn rounds_of<J: Naming, D: Door, R: Wait>(
         let before = reads_of(engine);
         let told = log.learn(rt, engine).ok()?;
         let caught = engine.catch_up(door);
-        if told != round + 1 || !is_right(before, reads_of(engine), caught, told) {
-            return None;
+        match caught {
+            Ok(_) => {}
+            Err(LiveFault::Refused) => refused = refused.saturating_add(1),
+            Err(LiveFault::Memory) => return None,
         }
-        if caught.is_err() {
-            refused = refused.saturating_add(1);
+        if told != round + 1 || !is_right(before, reads_of(engine), caught, told) {
+            wrong = wrong.saturating_add(1);
         }
     }
-    Some(refused)
+    Some((refused, wrong))
 }
 
 // The calls of the door are the opening, the looks, and those of `close`.
@@ -313,10 +316,14 @@ fn in_rounds<J: Naming, D: Door + Drop, R: Wait + Abort>(
     let mut door = door;
     let (log, mut engines) = opened.named::<J, R>(rt, alloc)?;
     let count = engines.len();
-    let refused = rounds_of(rt, alloc, &log, engines.as_mut_slice(), &mut door, 9);
+    let looked = rounds_of(rt, alloc, &log, engines.as_mut_slice(), &mut door, 9);
     let list = closed(rt, log, engines, &mut door).ok_or("not closed")?;
     let due = if refuse >= 1 && refuse <= 10 { 1 } else { 0 };
-    assert_eq!(rt; (refused, list.len()), (Some(due), 9), "at {refuse}");
+    assert_eq!(rt;
+        (looked.ok_or("memory")?, list.len()),
+        ((due, 0), 9),
+        "at {refuse}"
+    );
     for (at, item) in list.iter().enumerate() {
         assert_eq!(rt; item.0 as usize, at % count + 1, "at {refuse}");
     }
@@ -330,7 +337,8 @@ fn each_call_refused(rt: HostRuntime) -> Result<(), Fail> {
         let mut door = Refusing::at(refuse);
         match LiveLog::open(&rt, alloc, 2, &mut door) {
             Ok(opened) => in_rounds::<Brand, _, _>(&rt, alloc, opened, door, refuse)?,
-            Err(fault) => assert_eq!(rt; (refuse, fault), (1, LiveFault::Refused)),
+            Err(LiveFault::Refused) if refuse == 1 => {}
+            Err(_) => return Err(Fail::from("refused")),
         }
     }
     Ok(())
@@ -367,9 +375,10 @@ fn check_reads<J: Naming, R: Abort>(
     rt: &R,
     alloc: Global,
     engine: &LiveEngine<J>,
+    caught: (u64, u64),
 ) -> Result<(), Fail> {
     let tag = Tag(300);
-    assert_eq!(rt; engine.position(), 3);
+    assert_eq!(rt; (caught, engine.position()), ((3, 3), 3));
     assert_eq!(rt; engine.count(tag), 2);
     assert_eq!(rt; engine.next(tag, Seqnum(1)), Some(Seqnum(1)));
     assert_eq!(rt; engine.next(tag, Seqnum(2)), Some(Seqnum(2)));
@@ -401,13 +410,14 @@ fn three_in_turn<J: Naming, R: Wait + Abort>(
     let before = engines[0].position();
     let number = engines[2].number();
     let caught = learn_then_catch_up(rt, &log, &mut engines[0], &mut door).ok();
-    let reads = check_reads(rt, alloc, &engines[0]);
+    let reads = match (appended, caught) {
+        (Some(()), Some(caught)) => check_reads(rt, alloc, &engines[0], caught),
+        _ => Err(Fail::from("memory")),
+    };
     log.give_up(rt, engines);
-    assert_eq!(rt;
-        (appended.is_some(), before, number, caught),
-        (true, 0, 3, Some((3, 3)))
-    );
-    reads
+    reads?;
+    assert_eq!(rt; (before, number), (0, 3));
+    Ok(())
 }
 
 #[test]
@@ -418,15 +428,16 @@ fn three_engines(rt: HostRuntime) -> Result<(), Fail> {
     three_in_turn::<Brand, _>(&rt, alloc, opened, door)
 }
 
-// So many appends, and after each a look and a read of it.
+// So many appends, and after each a look and a read of it. Answers how many reads were not right.
 fn append_and_read<J: Naming, R: Wait>(
     rt: &R,
     alloc: Global,
     log: &LiveLog<J>,
     engine: &mut LiveEngine<J>,
     times: u32,
-) -> Option<()> {
+) -> Option<u64> {
     let mut door = RealDoor::new();
+    let mut wrong: u64 = 0;
     let tag = Tag(300 + engine.number() as u64);
     for _ in 0..times {
         let seq = log
@@ -434,10 +445,10 @@ fn append_and_read<J: Naming, R: Wait>(
             .ok()?;
         let position = engine.catch_up(&mut door).ok()?;
         if position < seq.0 || engine.prev(tag, Seqnum(position)) != Some(seq) {
-            return None;
+            wrong = wrong.saturating_add(1);
         }
     }
-    Some(())
+    Some(wrong)
 }
 
 fn in_threads<J: Naming + Send + Sync, R: Threads + Wait + Sync + Abort>(
@@ -452,18 +463,28 @@ fn in_threads<J: Naming + Send + Sync, R: Threads + Wait + Sync + Abort>(
 {
     let mut door = door;
     let (log, mut engines) = opened.named::<J, R>(rt, alloc)?;
-    side_by_side(rt, alloc, &log, engines.as_mut_slice());
+    let ran = AtomicU64::new(0);
+    let wrong = AtomicU64::new(0);
+    side_by_side(rt, alloc, &log, engines.as_mut_slice(), (&ran, &wrong));
     let list = closed(rt, log, engines, &mut door).ok_or("not closed")?;
+    if ran.load(Ordering::SeqCst) != 2 {
+        return Err(Fail::from("memory"));
+    }
     let by_first = list.iter().filter(|item| item.0 == 1).count();
-    assert_eq!(rt; (list.len(), by_first), (2000, 1000));
+    assert_eq!(rt;
+        (wrong.load(Ordering::SeqCst), list.len(), by_first),
+        (0, 2000, 1000)
+    );
     Ok(())
 }
 
+// Counts the engines that appended all of theirs, and their reads that were not right.
 fn side_by_side<J: Naming + Send + Sync, R: Threads + Wait + Sync>(
     rt: &R,
     alloc: Global,
     log: &LiveLog<J>,
     engines: &mut [LiveEngine<J>],
+    counts: (&AtomicU64, &AtomicU64),
 )
     requires { 0 < length engines.old }
 {
@@ -473,7 +494,10 @@ fn side_by_side<J: Naming + Send + Sync, R: Threads + Wait + Sync>(
         engines,
         threads,
         &|_at: usize, engine: &mut LiveEngine<J>| {
-            let _done = append_and_read(rt, alloc, log, engine, 1000);
+            if let Some(wrong) = append_and_read(rt, alloc, log, engine, 1000) {
+                counts.0.fetch_add(1, Ordering::SeqCst);
+                counts.1.fetch_add(wrong, Ordering::SeqCst);
+            }
         },
     );
 }
