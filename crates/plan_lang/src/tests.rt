@@ -142,7 +142,10 @@ fn refuses_texts(rt: HostRuntime) -> Result<(), Fail> {
         line: 3,
         kind: Kind::Syntax,
     };
-    assert_eq!(rt; format!(in alloc; "{fault}")?.as_str(), "line 3 is refused: syntax");
+    assert_eq!(rt;
+        format!(in alloc; "{fault}")?.as_str(),
+        "line 3 is refused: syntax"
+    );
     Ok(())
 }
 
