@@ -347,15 +347,15 @@ fn a_sink_that_takes_5_bytes_a_call_gets_all(rt: HostRuntime) -> Result<(), Fail
 #[test]
 fn a_failing_put_leaves_the_lines_before(rt: HostRuntime) -> Result<(), Fail> {
     // 14 lines of events and 8 of the report, each handed over in one piece.
-    let mut lines = 0;
-    let mut before = 0;
+    let mut lines = 0u64;
+    let mut before = 0usize;
     for line in FIRST_LINES.split_inclusive('\n') {
-        lines += 1;
+        lines = lines.saturating_add(1);
         let (status, sink) = run_first(rt.alloc(), 4096, 0, lines)?;
         assert_eq!(rt; status, Status::WriteFault);
         assert!(rt; FIRST_LINES.as_bytes().starts_with(sink.bytes()));
         assert_eq!(rt; sink.bytes().len(), before);
-        before += line.len();
+        before = before.saturating_add(line.len());
     }
     assert_eq!(rt; lines, 22);
     let (status, _) = run_first(rt.alloc(), 4096, 0, 23)?;
@@ -376,14 +376,14 @@ fn check_loose(alloc: Global, put: u64) -> Result<(Status, MemSink), AllocError>
 
 #[test]
 fn a_plan_is_written_line_by_line(rt: HostRuntime) -> Result<(), Fail> {
-    let mut lines = 0;
-    let mut before = 0;
+    let mut lines = 0u64;
+    let mut before = 0usize;
     for line in CANONICAL.split_inclusive('\n') {
-        lines += 1;
+        lines = lines.saturating_add(1);
         let (status, sink) = check_loose(rt.alloc(), lines)?;
         assert_eq!(rt; status, Status::WriteFault);
         assert_eq!(rt; sink.bytes().len(), before);
-        before += line.len();
+        before = before.saturating_add(line.len());
     }
     let (status, sink) = check_loose(rt.alloc(), 0)?;
     assert_eq!(rt; status, Status::Done);
