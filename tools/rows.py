@@ -1,10 +1,10 @@
 #!/usr/bin/env python3
-"""Makes the terms of crates/model_rows from the worked examples.
+"""Makes the terms of crates/computed_examples from the worked examples.
 
 Each examples/NAME.plan with an examples/NAME.out is a plan, whose first line is a comment that says what it shows, and
 what a run of it writes. For each the script writes specs/NAME.antt, the plan, the lines and the report as terms, and the
 proof that they come out by computation; and it writes src/lib.rt and specs/Lib.antt. tools/terms.py reads the texts.
-Run it, and then `rt fmt` in crates/model_rows.
+Run it, and then `rt fmt` in crates/computed_examples.
 """
 import pathlib
 import re
@@ -12,7 +12,7 @@ import re
 from terms import Example, definition, fielded, items, listed, record
 
 TOP = pathlib.Path(__file__).resolve().parent.parent
-CRATE = TOP / "crates" / "model_rows"
+CRATE = TOP / "crates" / "computed_examples"
 
 ALIASES = {
     "event": "boki_types.specs.declared.event.Event", "line": "boki_types.specs.declared.line.Line",
@@ -32,7 +32,8 @@ NAMES = [
     ("boki_types.specs.declared.turn.Report", ["Report"]),
     ("boki_types.specs.declared.program.Function", ["Function"]),
     ("boki_types.specs.declared.program.Stmt", ["Stmt"]),
-    ("model_rows.specs.Shown", ["Shows", "sent", "seqnum", "tag", "one_by_one"]),
+    ("boki_machine.specs.Step", ["seqnum"]),
+    ("computed_examples.specs.Computed", ["Computes", "sent", "tag", "one_by_one"]),
 ]
 
 def uses(body, library=()):
@@ -40,7 +41,7 @@ def uses(body, library=()):
     text = re.sub(r'"[^"]*"', "", re.sub(r"--.*", "", body))
     words = set(re.findall(r"(?<![\w.])\w+(?![\w.])|\[\]|∷", text))
     out = []
-    for module, names in NAMES + [("model_rows.specs.Functions", list(library))]:
+    for module, names in NAMES + [("computed_examples.specs.Functions", list(library))]:
         found = [name for name in names if name.strip("◌") in words]
         if found:
             out.append(f"use Rattle.{module}.{{{', '.join(found)}}}")
@@ -72,7 +73,7 @@ def spec_file(example, library):
         definition("plan", "Plan", plan_term(example)),
         definition("lines", "List Line", listed(example.lines)),
         definition("report", "Report", fielded(example.report)),
-        definition(run, "Type 0", " Shows plan lines report"),
+        definition(run, "Type 0", " Computes plan lines report"),
     ])
     shared = [f"{f.name}_function" for f in example.functions if library.get(f.name) == f.text()]
     head = f"-- {example.shows}.\n-- tools/rows.py makes this file from examples/{example.name}.plan and .out.\n"
@@ -83,15 +84,15 @@ def proof_file(example):
 use Rattle.std.proofs.Common.{{refl}}
 use Rattle.boki_types.specs.declared.expr.Expr.TheBlock.{{hidden-the_row-Expr-0}}
 use denote.Hole.Carrier.{{hidden}}
-use Rattle.model_rows.proofs.{example.name}.Goals as goal
+use Rattle.computed_examples.proofs.{example.name}.Goals as goal
 
 pub returns : goal.returns
 unfolding hidden-the_row-Expr-0 hidden
-returns c = record {{ valid = refl; lines = refl; report = refl; ideal = refl; decided = refl }}
+returns c = record {{ valid = refl; lines = refl; report = refl; executed = refl; each_attempt = refl }}
 """)
 
 def code_file(examples):
-    uses = "".join(f"ghost use Rattle.model_rows.specs.{e.module}.{{{e.module}Run}};\n" for e in examples)
+    uses = "".join(f"ghost use Rattle.computed_examples.specs.{e.module}.{{{e.module}Run}};\n" for e in examples)
     body = "".join(f"\n/// {e.shows}.\npub fn {e.name}()\n    ensures {{ {e.module}Run }}\n{{}}\n" for e in examples)
     head = ("//! The definitions of the machine and of the failure-free execution, computed on worked examples: each function has\n"
             "//! as its contract that the plan of that name gives the lines and the report that stand beside it in `examples/`.\n"
@@ -108,7 +109,7 @@ def main():
         spec_file(example, library)
         proof_file(example)
     code_file(examples)
-    modules = ["Shown", "Functions", "ByHand"] + [example.module for example in examples]
+    modules = ["Computed", "Functions", "ByHand"] + [example.module for example in examples]
     write(CRATE / "specs" / "Lib.antt", "".join(f"pub mod {module}\n" for module in modules))
 
 main()

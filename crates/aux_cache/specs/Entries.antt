@@ -9,9 +9,9 @@ abbrev pub value_at : {V : Type 0} → ℕ → LruCache ℕ V → Option V
 value_at seq c = lookup (nat_eq seq) c.entries
 
 -- the entry of a seqnum comes to the front; where there is none, nothing changes
-abbrev pub used : {V : Type 0} → ℕ → LruCache ℕ V → LruCache ℕ V
-used seq c = lru_cache (promoted (nat_eq seq) c.entries) c.cap
+abbrev pub moved_to_front : {V : Type 0} → ℕ → LruCache ℕ V → LruCache ℕ V
+moved_to_front seq c = lru_cache (promoted (nat_eq seq) c.entries) c.cap
 
 -- a value is set: its entry stands in front, in the place of the seqnum's own entry, or of the last one where the cache is full
-abbrev pub with_value : {V : Type 0} → ℕ → V → LruCache ℕ V → LruCache ℕ V
-with_value seq v c = lru_cache (put_entries nat_eq c seq v) c.cap
+abbrev pub with_entry : {V : Type 0} → ℕ → V → LruCache ℕ V → LruCache ℕ V
+with_entry seq v c = lru_cache (put_entries nat_eq c seq v) c.cap

@@ -3,7 +3,7 @@
 
 ghost use Rattle.std.specs.Prelude.{◌≡◌, ◌≤◌, ◌↔◌, nat_eq, [], length, is_some, IfOk, IsTrue, OnOk, OnErr, option_copied};
 ghost use Rattle.lru.specs.LruCache.{lru_cache, IsValid};
-ghost use Rattle.aux_cache.specs.Entries.{value_at, used, with_value};
+ghost use Rattle.aux_cache.specs.Entries.{value_at, moved_to_front, with_entry};
 
 use lb_base::{Memory, Seqnum};
 use lru::LruCache;
@@ -46,7 +46,7 @@ impl<V> Cache<V> {
     /// Whether there is an entry of the seqnum, which then is the most recently used. It takes no memory.
     pub fn get(&mut self, seq: Seqnum) -> bool
         ensures found { result ≡ is_some (value_at seq.0 self.old) }
-        ensures used { self.new ≡ used seq.0 self.old }
+        ensures order { self.new ≡ moved_to_front seq.0 self.old }
     {
         self.entries.promote(&seq.0)
     }
@@ -78,7 +78,7 @@ impl<V: Drop> Cache<V> {
     /// Sets the value of the seqnum, whose entry is then the most recently used. Where the seqnum had no entry and the cache is
     /// full, the least recently used entry goes. After `Memory` the cache is unchanged, and `value` is dropped.
     pub fn set(&mut self, seq: Seqnum, value: V) -> Result<(), Memory>
-        ensures ok { OnOk result (self.new ≡ with_value seq.0 value self.old) }
+        ensures ok { OnOk result (self.new ≡ with_entry seq.0 value self.old) }
         ensures err { OnErr result (self.new ≡ self.old) }
     {
         self.entries.put(seq.0, value)?;
@@ -90,26 +90,5 @@ impl<V: Drop> Cache<V> {
         ensures { self.new ≡ lru_cache [] self.old.cap }
     {
         self.entries.clear();
-    }
-}
-
-#[cfg(test)]
-mod tests {
-    use super::*;
-    use std::test::Fail;
-
-    #[test]
-    fn the_least_recently_used_goes(rt: HostRuntime) -> Result<(), Fail> {
-        let mut cache = Cache::new(rt.alloc(), 2)?;
-        cache.set(Seqnum(1), 10u64)?;
-        cache.set(Seqnum(2), 20)?;
-        assert!(rt; cache.get(Seqnum(1)));
-        cache.set(Seqnum(3), 30)?;
-        assert_eq!(rt; cache.peek(Seqnum(2)).copied(), None);
-        assert_eq!(rt; cache.peek(Seqnum(1)).copied(), Some(10));
-        assert_eq!(rt; cache.len(), 2);
-        cache.clear();
-        assert!(rt; cache.is_empty());
-        Ok(())
     }
 }

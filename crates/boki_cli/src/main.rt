@@ -1,65 +1,52 @@
 //! The program `boki`: stateful serverless functions over a shared log, each run exactly once.
 #![tactic(auto)]
 
-mod check;
-mod edge;
-mod make;
-mod run;
-mod small;
-mod status;
-mod telling;
-#[cfg(test)]
-mod tests;
-mod words;
-
-use crate::check::check_top;
-use crate::edge::{StdSink, StdSource};
-use crate::make::make_top;
-use crate::run::run_top;
-use crate::status::Status;
-use crate::words::Command;
-use lb_base::{Sink, Source};
-use std::alloc::Global;
+use boki_call::{Nemesis, Status, call};
+use call_base::{StdSink, StdSource};
+use lb_base::Memory;
+use nemesis::{Doubler, Killer, Loser};
 use std::env;
 use std::io::BufWriter;
 use std::process::ExitCode;
 
-/// The top call that the first word chooses, over any source and sink.
-fn call<S: Source, K: Sink>(
-    alloc: Global,
-    words: &[String],
-    source: &mut S,
-    sink: &mut K,
-) -> Status {
-    match Command::chosen(words) {
-        Command::Run => run_top(alloc, words, source, sink),
-        Command::Check => check_top(alloc, words, source, sink),
-        Command::Make => make_top(alloc, words, source, sink),
+/// The words of the command line, without the program's name.
+fn words_of(rt: &HostRuntime) -> Result<Vec<String>, Memory> {
+    let mut words = Vec::new(rt.alloc());
+    let Ok(args) = env::args(rt) else {
+        return Err(Memory);
+    };
+    for word in args.skip(1) {
+        words.push(word)?;
+    }
+    Ok(words)
+}
+
+/// Answers the words over the standard devices, and hands in a killer, a doubler and a loser.
+fn answer(rt: &HostRuntime) -> Result<Status, Memory> {
+    let alloc = rt.alloc();
+    let mut nemeses: Vec<Box<dyn Nemesis + Send>> = Vec::new(alloc);
+    nemeses.push(Box::new(alloc, Killer::new())?)?;
+    nemeses.push(Box::new(alloc, Doubler::new())?)?;
+    nemeses.push(Box::new(alloc, Loser::new())?)?;
+    let words = words_of(rt)?;
+    let Ok(out) = BufWriter::new(alloc, rt.stdout()) else {
+        return Err(Memory);
+    };
+    let mut source = StdSource::new(rt.stdin());
+    let mut sink = StdSink::new(out);
+    let status = call(rt, alloc, words.as_slice(), &mut source, &mut sink, nemeses);
+    // What the buffer kept is written now, and where that fails the text isn't whole.
+    if sink.flush() {
+        Ok(status)
+    } else {
+        Ok(Status::WriteFault)
     }
 }
 
 fn main(rt: HostRuntime) -> ExitCode {
-    let alloc = rt.alloc();
-    let mut words = Vec::new(alloc);
-    let Ok(args) = env::args(&rt) else {
-        return ExitCode::from(Status::Memory.code());
-    };
-    for word in args.skip(1) {
-        if words.push(word).is_err() {
-            return ExitCode::from(Status::Memory.code());
-        }
-    }
-    let Ok(out) = BufWriter::new(alloc, rt.stdout()) else {
-        return ExitCode::from(Status::Memory.code());
-    };
-    let mut source = StdSource::new(rt.stdin());
-    let mut sink = StdSink::new(out);
-    let status = call(alloc, words.as_slice(), &mut source, &mut sink);
-    // What the buffer kept is written now, and where that fails the text isn't whole.
-    let status = if sink.flush() {
-        status
-    } else {
-        Status::WriteFault
+    let status = match answer(&rt) {
+        Ok(status) => status,
+        Err(_) => Status::Memory,
     };
     ExitCode::from(status.code())
 }

@@ -4,8 +4,8 @@ use Rattle.std.proofs.lemmas.Bool.{eqb-true, le-leb, lt-leb, eq-eqb, ne_eqb, cas
 use Rattle.std.proofs.lemmas.List.{length-reverse}
 use Rattle.std.proofs.lemmas.Bool.Decides.{nat_tests}
 use mathlib.Core.List.{reverse-cons}
-use Rattle.boki_model.specs.Live.{Entry, Live, has_tag, count, meets, joined, live, upto}
-use Rattle.boki_model.specs.Reads.{tagged, nth, nth_seq}
+use Rattle.boki_model.specs.Live.{LogRecord, Live, has_tag, count, meets_condition, append_if_live, live, upto}
+use Rattle.boki_model.specs.Reads.{tagged_seqnums, nth, nth_seq}
 use Rattle.boki_model.specs.LogLaws.{FallBelow}
 
 module _ {A : Type 0} where
@@ -13,12 +13,12 @@ module _ {A : Type 0} where
   fall_more n m [] le fall = tt
   fall_more n m (x ∷ xs) le fall = (fall.0, omega (arith, fall.1), fall.2)
 
-  pub joined_falls : (n : ℕ) (r : Entry A) (xs : List (Live A)) → 0 < n → FallBelow n xs → FallBelow (suc n) (joined n r xs)
+  pub joined_falls : (n : ℕ) (r : LogRecord A) (xs : List (Live A)) → 0 < n → FallBelow n xs → FallBelow (suc n) (append_if_live n r xs)
   joined_falls n r xs at fall =
-      elim (meets r.condition xs) as (λ b. FallBelow (suc n) (cond b (record { seq = n; tags = r.tags; holds = r.holds } ∷ xs) xs))
+      elim (meets_condition r.condition xs) as (λ b. FallBelow (suc n) (cond b (record { seq = n; tags = r.tags; holds = r.holds } ∷ xs) xs))
       [ true ↦ (at, omega arith, fall) | false ↦ fall_more n (suc n) xs (omega arith) fall ]
 
-  pub live_falls : (log : List (Entry A)) → FallBelow (suc (length log)) (live log)
+  pub live_falls : (log : List (LogRecord A)) → FallBelow (suc (length log)) (live log)
   live_falls [] = tt
   live_falls (r ∷ log) = joined_falls (suc (length log)) r (live log) (omega arith) (live_falls log)
 
@@ -33,15 +33,15 @@ module _ {A : Type 0} where
   upto_all n p [] fall le = refl
   upto_all n p (x ∷ xs) fall le = upto_here p x xs (omega (arith, fall.1))
 
-  pub upto_joined : (p n : ℕ) (r : Entry A) (xs : List (Live A)) → p < n → upto p (joined n r xs) ≡ upto p xs
+  pub upto_joined : (p n : ℕ) (r : LogRecord A) (xs : List (Live A)) → p < n → upto p (append_if_live n r xs) ≡ upto p xs
   upto_joined p n r xs lt =
-      elim (meets r.condition xs) as (λ b. upto p (cond b (record { seq = n; tags = r.tags; holds = r.holds } ∷ xs) xs) ≡ upto p xs)
+      elim (meets_condition r.condition xs) as (λ b. upto p (cond b (record { seq = n; tags = r.tags; holds = r.holds } ∷ xs) xs) ≡ upto p xs)
       [ true ↦ upto_skip p (record { seq = n; tags = r.tags; holds = r.holds }) xs lt | false ↦ refl ]
 
-  pub earlier_stays : (r : Entry A) (log : List (Entry A)) (p : ℕ) → p ≤ length log → upto p (live (r ∷ log)) ≡ upto p (live log)
+  pub earlier_stays : (r : LogRecord A) (log : List (LogRecord A)) (p : ℕ) → p ≤ length log → upto p (live (r ∷ log)) ≡ upto p (live log)
   earlier_stays r log p le = upto_joined p (suc (length log)) r (live log) (omega arith)
 
-  pub prefix_seen : (n : ℕ) (log : List (Entry A)) → live (drop n log) ≡ upto (length log - n) (live log)
+  pub prefix_seen : (n : ℕ) (log : List (LogRecord A)) → live (drop n log) ≡ upto (length log - n) (live log)
   prefix_seen zero log = sym (upto_all (suc (length log)) (length log - 0) (live log) (live_falls log) (omega arith))
   prefix_seen (suc n) [] = refl
   prefix_seen (suc n) (r ∷ log) =
@@ -88,19 +88,19 @@ module _ {A : Type 0} where
   pub nth_here : (tag : ℕ) (y : Live A) (xs : List (Live A)) → has_tag tag y.tags ≡ true → nth tag (count tag xs) (y ∷ xs) ≡ Some y
   nth_here tag y xs has = rw (has, eq-eqb (count tag xs) (count tag xs) refl)
 
-  pub places_stay : (r : Entry A) (log : List (Entry A)) (tag place : ℕ) (x : Live A) → nth tag place (live log) ≡ Some x → nth tag place (live (r ∷ log)) ≡ Some x
+  pub places_stay : (r : LogRecord A) (log : List (LogRecord A)) (tag place : ℕ) (x : Live A) → nth tag place (live log) ≡ Some x → nth tag place (live (r ∷ log)) ≡ Some x
   places_stay r log tag place x found =
-      elim (meets r.condition (live log)) as (λ b. nth tag place (cond b (record { seq = suc (length log); tags = r.tags; holds = r.holds } ∷ live log) (live log)) ≡ Some x)
+      elim (meets_condition r.condition (live log)) as (λ b. nth tag place (cond b (record { seq = suc (length log); tags = r.tags; holds = r.holds } ∷ live log) (live log)) ≡ Some x)
       [ true ↦ nth_skip tag place (record { seq = suc (length log); tags = r.tags; holds = r.holds }) (live log) (nth_below tag place x (live log) found) ∙ found | false ↦ found ]
 
-  pub new_place : (r : Entry A) (log : List (Entry A)) (tag : ℕ) → meets r.condition (live log) ≡ true → has_tag tag r.tags ≡ true → nth tag (count tag (live log)) (live (r ∷ log)) ≡ Some (record { seq = suc (length log); tags = r.tags; holds = r.holds })
+  pub new_place : (r : LogRecord A) (log : List (LogRecord A)) (tag : ℕ) → meets_condition r.condition (live log) ≡ true → has_tag tag r.tags ≡ true → nth tag (count tag (live log)) (live (r ∷ log)) ≡ Some (record { seq = suc (length log); tags = r.tags; holds = r.holds })
   new_place r log tag meet has = rw meet (nth_here tag (record { seq = suc (length log); tags = r.tags; holds = r.holds }) (live log) has)
 
-  pub length-tagged : (tag : ℕ) (xs : List (Live A)) → length (tagged tag xs) ≡ count tag xs
+  pub length-tagged : (tag : ℕ) (xs : List (Live A)) → length (tagged_seqnums tag xs) ≡ count tag xs
   length-tagged tag [] = refl
   length-tagged tag (x ∷ xs) = at (length-tagged tag xs) (has_tag tag x.tags)
     where
-      at : length (tagged tag xs) ≡ count tag xs → (b : Bool) → length (cond b (x.seq ∷ tagged tag xs) (tagged tag xs)) ≡ cond b (suc (count tag xs)) (count tag xs)
+      at : length (tagged_seqnums tag xs) ≡ count tag xs → (b : Bool) → length (cond b (x.seq ∷ tagged_seqnums tag xs) (tagged_seqnums tag xs)) ≡ cond b (suc (count tag xs)) (count tag xs)
       at ih true = ap suc ih
       at ih false = ih
 
@@ -114,18 +114,18 @@ slice_get_push (y ∷ ys) x zero = rw (ne_eqb 0 (suc (length ys)) (λ e. omega a
 slice_get_push (y ∷ ys) x (suc i) = slice_get_push ys x i ∙ ap (λ b. cond b (Some x) (slice_get ys i)) (eqb-suc i (length ys))
 
 module _ {A : Type 0} where
-  pub places_ascend : (tag place : ℕ) (xs : List (Live A)) → nth_seq tag place xs ≡ slice_get (reverse (tagged tag xs)) place
+  pub places_ascend : (tag place : ℕ) (xs : List (Live A)) → nth_seq tag place xs ≡ slice_get (reverse (tagged_seqnums tag xs)) place
   places_ascend tag place [] = refl
   places_ascend tag place (x ∷ xs) = at (places_ascend tag place xs) (has_tag tag x.tags)
     where
-      same : option_map (λ y. y.seq) (nth tag place xs) ≡ slice_get (reverse (tagged tag xs)) place → (c : Bool) → option_map (λ y. y.seq) (cond c (Some x) (nth tag place xs)) ≡ cond c (Some x.seq) (slice_get (reverse (tagged tag xs)) place)
+      same : option_map (λ y. y.seq) (nth tag place xs) ≡ slice_get (reverse (tagged_seqnums tag xs)) place → (c : Bool) → option_map (λ y. y.seq) (cond c (Some x) (nth tag place xs)) ≡ cond c (Some x.seq) (slice_get (reverse (tagged_seqnums tag xs)) place)
       same ih true = refl
       same ih false = ih
 
-      at : option_map (λ y. y.seq) (nth tag place xs) ≡ slice_get (reverse (tagged tag xs)) place → (b : Bool) → option_map (λ y. y.seq) (cond (b && eqb place (count tag xs)) (Some x) (nth tag place xs)) ≡ slice_get (reverse (cond b (x.seq ∷ tagged tag xs) (tagged tag xs))) place
+      at : option_map (λ y. y.seq) (nth tag place xs) ≡ slice_get (reverse (tagged_seqnums tag xs)) place → (b : Bool) → option_map (λ y. y.seq) (cond (b && eqb place (count tag xs)) (Some x) (nth tag place xs)) ≡ slice_get (reverse (cond b (x.seq ∷ tagged_seqnums tag xs) (tagged_seqnums tag xs))) place
       at ih true =
           same ih (eqb place (count tag xs))
-          ∙ ap (λ n. cond (eqb place n) (Some x.seq) (slice_get (reverse (tagged tag xs)) place)) (sym (length-reverse (tagged tag xs) ∙ length-tagged tag xs))
-          ∙ sym (slice_get_push (reverse (tagged tag xs)) x.seq place)
-          ∙ ap (λ l. slice_get l place) (sym (reverse-cons x.seq (tagged tag xs)))
+          ∙ ap (λ n. cond (eqb place n) (Some x.seq) (slice_get (reverse (tagged_seqnums tag xs)) place)) (sym (length-reverse (tagged_seqnums tag xs) ∙ length-tagged tag xs))
+          ∙ sym (slice_get_push (reverse (tagged_seqnums tag xs)) x.seq place)
+          ∙ ap (λ l. slice_get l place) (sym (reverse-cons x.seq (tagged_seqnums tag xs)))
       at ih false = ih

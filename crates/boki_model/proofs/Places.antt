@@ -4,7 +4,7 @@ use Rattle.std.proofs.lemmas.Bool.{eqb-true, eq-eqb, ne_eqb, cases_lt}
 use Rattle.std.proofs.lemmas.Bool.Decides.{nat_tests}
 use Rattle.std.proofs.lemmas.List.{length-append, length-take, length-drop}
 use mathlib.Core.List.{reverse-cons}
-use Rattle.boki_model.specs.Order.{between, places_from, at_seq, seq_in}
+use Rattle.boki_model.specs.Order.{records_between, locations_from, at_seq, seq_in}
 
 -- What stands at a seqnum, in two lists joined.
 
@@ -91,67 +91,67 @@ seq_in_located x l q (p ∷ ps) found = at (seq_in_located x l q ps) (seq_in_mos
 -- The places of a part of a shard.
 
 module _ {A : Type 0} where
-  take_places : (n x k : ℕ) (s : List A) → take n (places_from x k s) ≡ places_from x k (take n s)
+  take_places : (n x k : ℕ) (s : List A) → take n (locations_from x k s) ≡ locations_from x k (take n s)
   take_places zero x k s = refl
   take_places (suc n) x k [] = refl
   take_places (suc n) x k (r ∷ s) = ap (λ l. (x, suc k) ∷ l) (take_places n x (suc k) s)
 
-  drop_places : (n x k : ℕ) (s : List A) → drop n (places_from x k s) ≡ places_from x (k + n) (drop n s)
-  drop_places zero x k s = ap (λ m. places_from x m s) (let e : k ≡ k + 0 = omega arith in e)
+  drop_places : (n x k : ℕ) (s : List A) → drop n (locations_from x k s) ≡ locations_from x (k + n) (drop n s)
+  drop_places zero x k s = ap (λ m. locations_from x m s) (let e : k ≡ k + 0 = omega arith in e)
   drop_places (suc n) x k [] = refl
-  drop_places (suc n) x k (r ∷ s) = drop_places n x (suc k) s ∙ ap (λ m. places_from x m (drop n s)) (let e : suc k + n ≡ k + suc n = omega arith in e)
+  drop_places (suc n) x k (r ∷ s) = drop_places n x (suc k) s ∙ ap (λ m. locations_from x m (drop n s)) (let e : suc k + n ≡ k + suc n = omega arith in e)
 
-  pub between_places : (o n x : ℕ) (s : List A) → between o n (places_from x 0 s) ≡ places_from x o (between o n s)
+  pub between_places : (o n x : ℕ) (s : List A) → records_between o n (locations_from x 0 s) ≡ locations_from x o (records_between o n s)
   between_places o n x s =
       ap (drop o) (take_places n x 0 s)
       ∙ drop_places o x 0 (take n s)
-      ∙ ap (λ m. places_from x m (between o n s)) (let e : 0 + o ≡ o = omega arith in e)
+      ∙ ap (λ m. locations_from x m (records_between o n s)) (let e : 0 + o ≡ o = omega arith in e)
 
-  pub length-between : (o n : ℕ) (s : List A) → n ≤ length s → length (between o n s) ≡ n - o
+  pub length-between : (o n : ℕ) (s : List A) → n ≤ length s → length (records_between o n s) ≡ n - o
   length-between o n s le = omega (arith, length-drop o (take n s), length-take n s)
 
-  pub at_seq_places : (q x k : ℕ) (zs : List A) → 0 < q → q ≤ length zs → at_seq q (reverse (places_from x k zs)) ≡ Some (x, k + q)
+  pub at_seq_places : (q x k : ℕ) (zs : List A) → 0 < q → q ≤ length zs → at_seq q (reverse (locations_from x k zs)) ≡ Some (x, k + q)
   at_seq_places q x k [] lt le = absurd (let h : ⊥ = omega arith in h)
-  at_seq_places q x k (z ∷ zs) lt le = ap (at_seq q) (reverse-cons (x, suc k) (places_from x (suc k) zs)) ∙ at (at_seq_places (q - 1) x (suc k) zs) (cases_lt 1 q)
+  at_seq_places q x k (z ∷ zs) lt le = ap (at_seq q) (reverse-cons (x, suc k) (locations_from x (suc k) zs)) ∙ at (at_seq_places (q - 1) x (suc k) zs) (cases_lt 1 q)
     where
-      at : (0 < q - 1 → q - 1 ≤ length zs → at_seq (q - 1) (reverse (places_from x (suc k) zs)) ≡ Some (x, suc k + (q - 1))) → (1 < q) ⊎ (q ≤ 1) → at_seq q (reverse (places_from x (suc k) zs) ++ (x, suc k) ∷ []) ≡ Some (x, k + q)
+      at : (0 < q - 1 → q - 1 ≤ length zs → at_seq (q - 1) (reverse (locations_from x (suc k) zs)) ≡ Some (x, suc k + (q - 1))) → (1 < q) ⊎ (q ≤ 1) → at_seq q (reverse (locations_from x (suc k) zs) ++ (x, suc k) ∷ []) ≡ Some (x, k + q)
       at ih (inl h) =
-          at_seq_high q (reverse (places_from x (suc k) zs)) ((x, suc k) ∷ []) h
+          at_seq_high q (reverse (locations_from x (suc k) zs)) ((x, suc k) ∷ []) h
           ∙ ih (omega arith) (omega arith)
           ∙ ap (λ m. Some (x, m)) (let e : suc k + (q - 1) ≡ k + q = omega arith in e)
       at ih (inr h) =
-          at_seq_low q (reverse (places_from x (suc k) zs)) ((x, suc k) ∷ []) h
+          at_seq_low q (reverse (locations_from x (suc k) zs)) ((x, suc k) ∷ []) h
           ∙ (let e : q ≡ 1 = omega arith in rw e (ap (λ m. Some (x, m)) (let f : suc k ≡ k + 1 = omega arith in f)))
 
-  pub seq_places_other : (y l x k : ℕ) (zs : List A) → (y ≡ x → ⊥) → seq_in y l (reverse (places_from x k zs)) ≡ None
+  pub seq_places_other : (y l x k : ℕ) (zs : List A) → (y ≡ x → ⊥) → seq_in y l (reverse (locations_from x k zs)) ≡ None
   seq_places_other y l x k [] ne = refl
   seq_places_other y l x k (z ∷ zs) ne =
-      ap (seq_in y l) (reverse-cons (x, suc k) (places_from x (suc k) zs))
-      ∙ seq_in_miss y l (reverse (places_from x (suc k) zs)) ((x, suc k) ∷ []) (seq_places_other y l x (suc k) zs ne)
+      ap (seq_in y l) (reverse-cons (x, suc k) (locations_from x (suc k) zs))
+      ∙ seq_in_miss y l (reverse (locations_from x (suc k) zs)) ((x, suc k) ∷ []) (seq_places_other y l x (suc k) zs ne)
       ∙ rw (ne_eqb y x ne)
 
-  pub seq_places_low : (l x k : ℕ) (zs : List A) → l ≤ k → seq_in x l (reverse (places_from x k zs)) ≡ None
+  pub seq_places_low : (l x k : ℕ) (zs : List A) → l ≤ k → seq_in x l (reverse (locations_from x k zs)) ≡ None
   seq_places_low l x k [] le = refl
   seq_places_low l x k (z ∷ zs) le =
-      ap (seq_in x l) (reverse-cons (x, suc k) (places_from x (suc k) zs))
-      ∙ seq_in_miss x l (reverse (places_from x (suc k) zs)) ((x, suc k) ∷ []) (seq_places_low l x (suc k) zs (omega arith))
+      ap (seq_in x l) (reverse-cons (x, suc k) (locations_from x (suc k) zs))
+      ∙ seq_in_miss x l (reverse (locations_from x (suc k) zs)) ((x, suc k) ∷ []) (seq_places_low l x (suc k) zs (omega arith))
       ∙ rw (eq-eqb x x refl, ne_eqb l (suc k) (λ e. omega arith))
 
-  pub seq_places_high : (l x k : ℕ) (zs : List A) → k + length zs < l → seq_in x l (reverse (places_from x k zs)) ≡ None
+  pub seq_places_high : (l x k : ℕ) (zs : List A) → k + length zs < l → seq_in x l (reverse (locations_from x k zs)) ≡ None
   seq_places_high l x k [] lt = refl
   seq_places_high l x k (z ∷ zs) lt =
-      ap (seq_in x l) (reverse-cons (x, suc k) (places_from x (suc k) zs))
-      ∙ seq_in_miss x l (reverse (places_from x (suc k) zs)) ((x, suc k) ∷ []) (seq_places_high l x (suc k) zs (omega arith))
+      ap (seq_in x l) (reverse-cons (x, suc k) (locations_from x (suc k) zs))
+      ∙ seq_in_miss x l (reverse (locations_from x (suc k) zs)) ((x, suc k) ∷ []) (seq_places_high l x (suc k) zs (omega arith))
       ∙ rw (eq-eqb x x refl, ne_eqb l (suc k) (λ e. omega arith))
 
-  pub seq_places_in : (l x k : ℕ) (zs : List A) → k < l → l ≤ k + length zs → seq_in x l (reverse (places_from x k zs)) ≡ Some (l - k)
+  pub seq_places_in : (l x k : ℕ) (zs : List A) → k < l → l ≤ k + length zs → seq_in x l (reverse (locations_from x k zs)) ≡ Some (l - k)
   seq_places_in l x k [] lt le = absurd (let h : ⊥ = omega arith in h)
-  seq_places_in l x k (z ∷ zs) lt le = ap (seq_in x l) (reverse-cons (x, suc k) (places_from x (suc k) zs)) ∙ at (seq_places_in l x (suc k) zs) (cases_lt (suc k) l)
+  seq_places_in l x k (z ∷ zs) lt le = ap (seq_in x l) (reverse-cons (x, suc k) (locations_from x (suc k) zs)) ∙ at (seq_places_in l x (suc k) zs) (cases_lt (suc k) l)
     where
-      at : (suc k < l → l ≤ suc k + length zs → seq_in x l (reverse (places_from x (suc k) zs)) ≡ Some (l - suc k)) → (suc k < l) ⊎ (l ≤ suc k) → seq_in x l (reverse (places_from x (suc k) zs) ++ (x, suc k) ∷ []) ≡ Some (l - k)
+      at : (suc k < l → l ≤ suc k + length zs → seq_in x l (reverse (locations_from x (suc k) zs)) ≡ Some (l - suc k)) → (suc k < l) ⊎ (l ≤ suc k) → seq_in x l (reverse (locations_from x (suc k) zs) ++ (x, suc k) ∷ []) ≡ Some (l - k)
       at ih (inl h) =
-          seq_in_hit x l (l - suc k) (reverse (places_from x (suc k) zs)) ((x, suc k) ∷ []) (ih h (omega arith))
+          seq_in_hit x l (l - suc k) (reverse (locations_from x (suc k) zs)) ((x, suc k) ∷ []) (ih h (omega arith))
           ∙ ap Some (let e : (l - suc k) + 1 ≡ l - k = omega arith in e)
       at ih (inr h) =
-          seq_in_miss x l (reverse (places_from x (suc k) zs)) ((x, suc k) ∷ []) (seq_places_low l x (suc k) zs h)
+          seq_in_miss x l (reverse (locations_from x (suc k) zs)) ((x, suc k) ∷ []) (seq_places_low l x (suc k) zs h)
           ∙ rw (eq-eqb x x refl, eq-eqb l (suc k) (let e : l ≡ suc k = omega arith in e)) (ap Some (let f : 1 ≡ l - k = omega arith in f))

@@ -1,8 +1,8 @@
 -- What the ordered list has at a seqnum is the record of its place.
 use Rattle.std.proofs.Common.{◌≡◌, ℕ, zero, suc, Bool, true, false, cond, eqb, List, [], ◌∷◌, ◌++◌, length, take, drop, reverse, Some, option_and_then, slice_get, refl, sym, ap, ◌∙◌, subst}
 use mathlib.Core.List.{reverse-cons}
-use Rattle.boki_model.specs.Order.{first_count, other_counts, between, added, last_vector, order, places_from, places, ordered_places, at_seq, locate}
-use Rattle.boki_model.specs.OrderLaws.{Grow, Have, local_record, record_at, TellEachOther}
+use Rattle.boki_model.specs.Order.{first_count, other_counts, records_between, entry_records, last_vector, order, locations_from, locations, ordered_locations, at_seq, locate}
+use Rattle.boki_model.specs.OrderLaws.{CountsGrow, ShardsHave, local_record, record_at, AreInverse}
 use Rattle.boki_model.proofs.Places.{seq_in_located}
 use Rattle.boki_model.proofs.EntryPlaces.{numbered}
 
@@ -55,20 +55,20 @@ module _ {A : Type 0} (shards : List (List A)) where
   AllStand (x ∷ xs) [] = ⊥
   AllStand (x ∷ xs) (p ∷ ps) = Stand x p × AllStand xs ps
 
-  stand_added : (xs : List (List A)) (ps : List (List (ℕ × ℕ))) (old new : List ℕ) → AllStand xs ps → Stand (added xs old new) (added ps old new)
+  stand_added : (xs : List (List A)) (ps : List (List (ℕ × ℕ))) (old new : List ℕ) → AllStand xs ps → Stand (entry_records xs old new) (entry_records ps old new)
   stand_added [] [] old new h = tt
   stand_added [] (p ∷ ps) old new h = absurd h
   stand_added (x ∷ xs) [] old new h = absurd h
   stand_added (x ∷ xs) (p ∷ ps) old new h =
-      stand_append (added xs (other_counts old) (other_counts new)) (reverse (between (first_count old) (first_count new) x))
-      (added ps (other_counts old) (other_counts new)) (reverse (between (first_count old) (first_count new) p))
+      stand_append (entry_records xs (other_counts old) (other_counts new)) (reverse (records_between (first_count old) (first_count new) x))
+      (entry_records ps (other_counts old) (other_counts new)) (reverse (records_between (first_count old) (first_count new) p))
       (stand_added xs ps (other_counts old) (other_counts new) h.1)
-      (stand_reverse (between (first_count old) (first_count new) x) (between (first_count old) (first_count new) p)
+      (stand_reverse (records_between (first_count old) (first_count new) x) (records_between (first_count old) (first_count new) p)
       (stand_drop (first_count old) (take (first_count new) x) (take (first_count new) p) (stand_take (first_count new) x p h.0)))
 
   stand_order : (xs : List (List A)) (ps : List (List (ℕ × ℕ))) (vs : List (List ℕ)) → AllStand xs ps → Stand (order xs vs) (order ps vs)
   stand_order xs ps [] h = tt
-  stand_order xs ps (v ∷ vs) h = stand_append (added xs (last_vector vs) v) (order xs vs) (added ps (last_vector vs) v) (order ps vs) (stand_added xs ps (last_vector vs) v h) (stand_order xs ps vs h)
+  stand_order xs ps (v ∷ vs) h = stand_append (entry_records xs (last_vector vs) v) (order xs vs) (entry_records ps (last_vector vs) v) (order ps vs) (stand_added xs ps (last_vector vs) v h) (stand_order xs ps vs h)
 
   stand_at : (q : ℕ) (xs : List A) (ps : List (ℕ × ℕ)) → Stand xs ps → at_seq q xs ≡ option_and_then (λ p. record_at p.0 p.1 shards) (at_seq q ps)
   stand_at q [] [] h = refl
@@ -94,20 +94,20 @@ rest_of_drop zero (x ∷ xs) ys y e = cc
 rest_of_drop (suc n) (x ∷ xs) ys y e = rest_of_drop n xs ys y e
 
 module _ {A : Type 0} (shards : List (List A)) where
-  stand_places : (k j : ℕ) (s zs : List A) → slice_get shards k ≡ Some s → drop j s ≡ zs → Stand shards zs (places_from (suc k) j zs)
+  stand_places : (k j : ℕ) (s zs : List A) → slice_get shards k ≡ Some s → drop j s ≡ zs → Stand shards zs (locations_from (suc k) j zs)
   stand_places k j s [] is rest = tt
   stand_places k j s (z ∷ zs) is rest = (ap (option_and_then (local_record (suc j))) is ∙ first_of_drop j s zs z rest, stand_places k (suc j) s zs is (rest_of_drop j s zs z rest))
 
-  all_stand : (k : ℕ) (ss : List (List A)) → drop k shards ≡ ss → AllStand shards ss (places k ss)
+  all_stand : (k : ℕ) (ss : List (List A)) → drop k shards ≡ ss → AllStand shards ss (locations k ss)
   all_stand k [] rest = tt
   all_stand k (s ∷ ss) rest = (stand_places k 0 s s (first_of_drop k shards ss s rest) refl, all_stand (suc k) ss (rest_of_drop k shards ss s rest))
 
   pub stands : (vectors : List (List ℕ)) (q : ℕ) → at_seq q (order shards vectors) ≡ option_and_then (λ p. record_at p.0 p.1 shards) (locate q shards vectors)
-  stands vectors q = stand_at shards q (order shards vectors) (ordered_places shards vectors) (stand_order shards shards (places 0 shards) vectors (all_stand 0 shards refl))
+  stands vectors q = stand_at shards q (order shards vectors) (ordered_locations shards vectors) (stand_order shards shards (locations 0 shards) vectors (all_stand 0 shards refl))
 
-  pub tell_each_other : (vectors : List (List ℕ)) → Grow vectors → Have shards (last_vector vectors) → TellEachOther shards vectors
+  pub tell_each_other : (vectors : List (List ℕ)) → CountsGrow vectors → ShardsHave shards (last_vector vectors) → AreInverse shards vectors
   tell_each_other vectors grow have = record {
-    located = λ x l q is. seq_in_located x l q (ordered_places shards vectors) is;
+    located = λ x l q is. seq_in_located x l q (ordered_locations shards vectors) is;
     numbered = λ x l q is. numbered shards x l q vectors grow have is;
     stands = stands vectors;
   }

@@ -8,9 +8,9 @@ use Rattle.lb_base.specs.declared.value.Cond.{Cond}
 use Rattle.lb_base.specs.Path.{is_request, is_ordinal, are_ordinals, is_path, IsPath}
 use Rattle.boki_types.specs.declared.body.Body.{Body}
 use Rattle.boki_types.specs.declared.body.Body.TheVariants as b
-use Rattle.boki_model.specs.Live.{Entry, Live, has_tag, count, meets, live}
+use Rattle.boki_model.specs.Live.{LogRecord, Live, has_tag, count, meets_condition, live}
 use Rattle.boki_model.specs.Bodies.{path_number, call_tag, step_tag, tag_of, tags_of}
-use Rattle.boki_model.specs.TagLaws.{TagsTellPaths, first_of, IsFirst, AreFirst, is_submit, is_init, how_many, IsBegunOnce}
+use Rattle.boki_model.specs.TagLaws.{TagsTellPaths, first_with_tag, IsFirst, AreFirst, is_submit, is_init, how_many, IsBegunOnce}
 
 -- what a path's numbers keep to
 pub record AreDigits (n : ℕ) (ns : List ℕ) : Type 0 where
@@ -104,20 +104,20 @@ tags_tell = record {
 
 -- At most one.
 
-abbrev IsAlone : (Body → Bool) → ℕ → List (Entry Body) → Type 0
+abbrev IsAlone : (Body → Bool) → ℕ → List (LogRecord Body) → Type 0
 IsAlone passes tag [] = Unit {0}
-IsAlone passes tag (r ∷ log) = (passes r.holds ≡ true → (has_tag tag r.tags ≡ true) × (r.condition ≡ first_of tag)) × IsAlone passes tag log
+IsAlone passes tag (r ∷ log) = (passes r.holds ≡ true → (has_tag tag r.tags ≡ true) × (r.condition ≡ first_with_tag tag)) × IsAlone passes tag log
 
 pub record AtMostOne (passes : Body → Bool) (tag : ℕ) (xs : List (Live Body)) : Type 0 where
   pub one : how_many passes xs ≤ 1
   pub tagged : how_many passes xs ≤ count tag xs
 
-one_more : (passes : Body → Bool) (tag : ℕ) (r : Entry Body) (x : Live Body) (xs : List (Live Body)) → x.holds ≡ r.holds → x.tags ≡ r.tags → meets r.condition xs ≡ true
-    → (passes r.holds ≡ true → (has_tag tag r.tags ≡ true) × (r.condition ≡ first_of tag)) → AtMostOne passes tag xs → AtMostOne passes tag (x ∷ xs)
+one_more : (passes : Body → Bool) (tag : ℕ) (r : LogRecord Body) (x : Live Body) (xs : List (Live Body)) → x.holds ≡ r.holds → x.tags ≡ r.tags → meets_condition r.condition xs ≡ true
+    → (passes r.holds ≡ true → (has_tag tag r.tags ≡ true) × (r.condition ≡ first_with_tag tag)) → AtMostOne passes tag xs → AtMostOne passes tag (x ∷ xs)
 one_more passes tag r x xs holds tags meet alone past = at (passes x.holds) refl (has_tag tag x.tags) refl
   where
     none : passes x.holds ≡ true → count tag xs ≡ 0
-    none e = sym (eqb-true 0 (count tag xs) (sym (ap (λ c. meets c xs) (alone (ap passes (sym holds) ∙ e)).1) ∙ meet))
+    none e = sym (eqb-true 0 (count tag xs) (sym (ap (λ c. meets_condition c xs) (alone (ap passes (sym holds) ∙ e)).1) ∙ meet))
 
     has : passes x.holds ≡ true → has_tag tag x.tags ≡ true
     has e = ap (has_tag tag) tags ∙ (alone (ap passes (sym holds) ∙ e)).0
@@ -128,38 +128,38 @@ one_more passes tag r x xs holds tags meet alone past = at (passes x.holds) refl
     at false e true f = record { one = rw e past.one; tagged = rw (e, f) (omega (arith, past.tagged)) }
     at false e false f = record { one = rw e past.one; tagged = rw (e, f) past.tagged }
 
-pub at_most_one : (passes : Body → Bool) (tag : ℕ) (log : List (Entry Body)) → IsAlone passes tag log → AtMostOne passes tag (live log)
+pub at_most_one : (passes : Body → Bool) (tag : ℕ) (log : List (LogRecord Body)) → IsAlone passes tag log → AtMostOne passes tag (live log)
 at_most_one passes tag [] alone = record { one = omega arith; tagged = omega arith }
-at_most_one passes tag (r ∷ log) alone = at (at_most_one passes tag log alone.1) (meets r.condition (live log)) refl
+at_most_one passes tag (r ∷ log) alone = at (at_most_one passes tag log alone.1) (meets_condition r.condition (live log)) refl
   where
-    at : AtMostOne passes tag (live log) → (m : Bool) → meets r.condition (live log) ≡ m → AtMostOne passes tag (cond m (record { seq = suc (length log); tags = r.tags; holds = r.holds } ∷ live log) (live log))
+    at : AtMostOne passes tag (live log) → (m : Bool) → meets_condition r.condition (live log) ≡ m → AtMostOne passes tag (cond m (record { seq = suc (length log); tags = r.tags; holds = r.holds } ∷ live log) (live log))
     at past true e = one_more passes tag r (record { seq = suc (length log); tags = r.tags; holds = r.holds }) (live log) refl refl e alone.0 past
     at past false e = past
 
 has_own : (t : ℕ) (ts : List Tag) → has_tag t (record { 0 = t } ∷ ts) ≡ true
 has_own t ts = rw (eq-eqb t t refl)
 
-submit_first : (path : List ℕ) (body : Body) (tags : List Tag) (condition : Option Cond) → IsFirst body tags condition → is_submit path body ≡ true → (has_tag (call_tag path) tags ≡ true) × (condition ≡ first_of (call_tag path))
+submit_first : (path : List ℕ) (body : Body) (tags : List Tag) (condition : Option Cond) → IsFirst body tags condition → is_submit path body ≡ true → (has_tag (call_tag path) tags ≡ true) × (condition ≡ first_with_tag (call_tag path))
 submit_first path (b.Submit p f args) tags condition first is =
     let same : path ≡ p = (bytes_eq-Decides path p).0 is in
-    (ap (has_tag (call_tag path)) first.0 ∙ ap (λ q. has_tag (call_tag q) (tags_of (b.Submit p f args))) same ∙ has_own (call_tag p) [], first.1 ∙ ap (λ q. first_of (call_tag q)) (sym same))
+    (ap (has_tag (call_tag path)) first.0 ∙ ap (λ q. has_tag (call_tag q) (tags_of (b.Submit p f args))) same ∙ has_own (call_tag p) [], first.1 ∙ ap (λ q. first_with_tag (call_tag q)) (sym same))
 submit_first path _ tags condition first is = cc
 
-init_first : (path : List ℕ) (body : Body) (tags : List Tag) (condition : Option Cond) → IsFirst body tags condition → is_init path body ≡ true → (has_tag (step_tag path) tags ≡ true) × (condition ≡ first_of (step_tag path))
+init_first : (path : List ℕ) (body : Body) (tags : List Tag) (condition : Option Cond) → IsFirst body tags condition → is_init path body ≡ true → (has_tag (step_tag path) tags ≡ true) × (condition ≡ first_with_tag (step_tag path))
 init_first path (b.Init p) tags condition first is =
     let same : path ≡ p = (bytes_eq-Decides path p).0 is in
-    (ap (has_tag (step_tag path)) first.0 ∙ ap (λ q. has_tag (step_tag q) (tags_of (b.Init p))) same ∙ has_own (step_tag p) (tag_of 9 0 ∷ []), first.1 ∙ ap (λ q. first_of (step_tag q)) (sym same))
+    (ap (has_tag (step_tag path)) first.0 ∙ ap (λ q. has_tag (step_tag q) (tags_of (b.Init p))) same ∙ has_own (step_tag p) (tag_of 9 0 ∷ []), first.1 ∙ ap (λ q. first_with_tag (step_tag q)) (sym same))
 init_first path _ tags condition first is = cc
 
-submits_alone : (path : List ℕ) (log : List (Entry Body)) → AreFirst log → IsAlone (is_submit path) (call_tag path) log
+submits_alone : (path : List ℕ) (log : List (LogRecord Body)) → AreFirst log → IsAlone (is_submit path) (call_tag path) log
 submits_alone path [] first = tt
 submits_alone path (r ∷ log) first = (submit_first path r.holds r.tags r.condition first.0, submits_alone path log first.1)
 
-inits_alone : (path : List ℕ) (log : List (Entry Body)) → AreFirst log → IsAlone (is_init path) (step_tag path) log
+inits_alone : (path : List ℕ) (log : List (LogRecord Body)) → AreFirst log → IsAlone (is_init path) (step_tag path) log
 inits_alone path [] first = tt
 inits_alone path (r ∷ log) first = (init_first path r.holds r.tags r.condition first.0, inits_alone path log first.1)
 
-pub begun_once : (log : List (Entry Body)) → AreFirst log → IsBegunOnce log
+pub begun_once : (log : List (LogRecord Body)) → AreFirst log → IsBegunOnce log
 begun_once log first = record {
   submits = λ path. (at_most_one (is_submit path) (call_tag path) log (submits_alone path log first)).one;
   inits = λ path. (at_most_one (is_init path) (step_tag path) log (inits_alone path log first)).one;

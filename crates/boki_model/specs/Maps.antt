@@ -1,3 +1,4 @@
+-- The statement of the central theorem rests on this file.
 -- Maps whose keys are lists of numbers, texts by their bytes and paths by their numbers: lists of entries with the least key
 -- first. Keys are ordered by their numbers from the left, a front first.
 use Rattle.std.specs.Prelude.{ℕ, Bool, false, ◌||◌, List, [], ◌∷◌, Option, bytes_eq}

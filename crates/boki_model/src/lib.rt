@@ -2,8 +2,10 @@
 //! of which has its law as its contract.
 #![tactic(auto)]
 
+pub mod limits;
 pub mod log_laws;
 pub mod map_laws;
 pub mod order_laws;
+pub mod tag_classes;
 pub mod tag_laws;
 pub mod write_laws;

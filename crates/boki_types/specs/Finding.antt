@@ -1,12 +1,13 @@
+-- The statement of the central theorem rests on this file.
 -- Functions by name and by number.
-use Rattle.std.specs.Prelude.{ℕ, zero, suc, List, [], ◌∷◌, length, Option, Some, None, option_map, bytes_eq, cond}
+use Rattle.std.specs.Prelude.{ℕ, zero, suc, List, [], ◌∷◌, length, Option, Some, None, option_map, bytes_eq, if◌then◌else◌}
 use Rattle.lb_base.specs.declared.words.Words.{Words}
 use Rattle.boki_types.specs.declared.program.Function.{Function}
 
 -- the number of the first function of that name, from 0
 abbrev pub find : List ℕ → List Function → Option ℕ
 find name [] = None
-find name (f ∷ fs) = cond (bytes_eq name f.name) (Some 0) (option_map suc (find name fs))
+find name (f ∷ fs) = if bytes_eq name f.name then Some 0 else option_map suc (find name fs)
 
 -- the function of that number
 abbrev pub function_at : ℕ → List Function → Option Function

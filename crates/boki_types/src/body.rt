@@ -1,14 +1,11 @@
-ghost use Rattle.std.specs.Prelude.{◌≡◌};
-
 use lb_base::{List, Mode, Outcome, Path, Value, Words};
-use std::alloc::AllocError;
 
 /// What a record of the log says.
 ///
 /// A *step record* is one of an invocation's own steps: all variants with a path but `Submit`. Its `index` is 1 for `Init`
 /// (which is not stored), the number of the operation, from 1, for an operation, and the number of operations plus 1 for
 /// `Finish`.
-#[derive(Debug, Drop)]
+#[derive(Drop)]
 pub enum Body {
     /// A request, a path of one number, and the function that it calls.
     Submit {
@@ -55,7 +52,7 @@ pub enum Body {
         queue: Words,
         value: Value,
     },
-    /// The front of a queue is taken, where there is one.
+    /// The first value of a queue is taken, where there is one.
     Pop {
         path: Path,
         index: u64,
@@ -106,122 +103,4 @@ pub enum Body {
         index: u64,
         keys: List<Words>,
     },
-}
-
-// Written out, so that a clone is told to be the same value.
-impl Clone for Body {
-    ghost is_clone = { λ body copy. copy ≡ body };
-
-    fn clone(&self) -> Result<Body, AllocError> {
-        match self {
-            Body::Submit {
-                path,
-                function,
-                args,
-            } => Ok(Body::Submit {
-                path: *path,
-                function: function.clone()?,
-                args: args.clone()?,
-            }),
-            Body::Init { path } => Ok(Body::Init { path: *path }),
-            Body::Read { path, index, key } => Ok(Body::Read {
-                path: *path,
-                index: *index,
-                key: key.clone()?,
-            }),
-            Body::Write {
-                path,
-                index,
-                place,
-                key,
-                value,
-            } => Ok(Body::Write {
-                path: *path,
-                index: *index,
-                place: *place,
-                key: key.clone()?,
-                value: value.clone()?,
-            }),
-            Body::Spawn {
-                path,
-                index,
-                ordinal,
-                function,
-                args,
-            } => Ok(Body::Spawn {
-                path: *path,
-                index: *index,
-                ordinal: *ordinal,
-                function: function.clone()?,
-                args: args.clone()?,
-            }),
-            Body::Join {
-                path,
-                index,
-                ordinal,
-            } => Ok(Body::Join {
-                path: *path,
-                index: *index,
-                ordinal: *ordinal,
-            }),
-            Body::Push {
-                path,
-                index,
-                queue,
-                value,
-            } => Ok(Body::Push {
-                path: *path,
-                index: *index,
-                queue: queue.clone()?,
-                value: value.clone()?,
-            }),
-            Body::Pop { path, index, queue } => Ok(Body::Pop {
-                path: *path,
-                index: *index,
-                queue: queue.clone()?,
-            }),
-            Body::TxnBegin { path, index, names } => Ok(Body::TxnBegin {
-                path: *path,
-                index: *index,
-                names: names.clone()?,
-            }),
-            Body::TxnCommit {
-                path,
-                index,
-                begin,
-                names,
-                writes,
-            } => Ok(Body::TxnCommit {
-                path: *path,
-                index: *index,
-                begin: *begin,
-                names: names.clone()?,
-                writes: writes.clone()?,
-            }),
-            Body::Finish {
-                path,
-                index,
-                outcome,
-            } => Ok(Body::Finish {
-                path: *path,
-                index: *index,
-                outcome: outcome.clone()?,
-            }),
-            Body::SwitchBegin { target } => Ok(Body::SwitchBegin { target: *target }),
-            Body::SwitchEnd => Ok(Body::SwitchEnd),
-            Body::Trim { w } => Ok(Body::Trim { w: *w }),
-            Body::TrimTag { number, upto } => Ok(Body::TrimTag {
-                number: *number,
-                upto: *upto,
-            }),
-            Body::User { bytes } => Ok(Body::User {
-                bytes: bytes.clone()?,
-            }),
-            Body::ReadGroup { path, index, keys } => Ok(Body::ReadGroup {
-                path: *path,
-                index: *index,
-                keys: keys.clone()?,
-            }),
-        }
-    }
 }

@@ -2,7 +2,7 @@ use lb_base::{List, Mode, Path, Seqnum, Tag, Value, Words};
 
 /// An event of a plan. Engines, shards, replicas and attempts are numbered from 1; a local number counts a shard's records
 /// from 1; a function is named by its number in the program, from 0.
-#[derive(Debug, Drop)]
+#[derive(Drop)]
 pub enum Event {
     /// The engine appends a request's call.
     Submit {

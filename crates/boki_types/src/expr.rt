@@ -1,8 +1,5 @@
-ghost use Rattle.std.specs.Prelude.{◌≡◌, IfOk};
-
-use lb_base::{Memory, Words};
+use lb_base::Words;
 use sqlite_items::Boxed;
-use std::alloc::Global;
 
 /// An operator between two operands.
 #[derive(Clone, Copy, Debug, PartialEq, Eq)]
@@ -25,7 +22,7 @@ pub enum BinOp {
 }
 
 /// An expression of a script.
-#[derive(Debug, Drop)]
+#[derive(Drop)]
 pub enum Expr {
     Int(i64),
     Text(Words),
@@ -38,28 +35,4 @@ pub enum Expr {
     TextOf(Boxed<Expr>),
     /// `len(E)`: a text's number of bytes.
     Len(Boxed<Expr>),
-}
-
-impl Expr {
-    /// A copy, or `Memory` where there is no room for it.
-    ///
-    /// It calls itself as deep as the expression is.
-    pub fn copy(&self, alloc: Global) -> Result<Expr, Memory>
-        ensures { IfOk result (λ x. x ≡ self.now) }
-    {
-        match self {
-            Expr::Int(n) => Ok(Expr::Int(*n)),
-            Expr::Text(text) => Ok(Expr::Text(text.clone()?)),
-            Expr::Nothing => Ok(Expr::Nothing),
-            Expr::Var(name) => Ok(Expr::Var(name.clone()?)),
-            Expr::Not(x) => Ok(Expr::Not(Boxed::new(alloc, x.get().copy(alloc)?)?)),
-            Expr::Two(op, x, y) => {
-                let left = Boxed::new(alloc, x.get().copy(alloc)?)?;
-                let right = Boxed::new(alloc, y.get().copy(alloc)?)?;
-                Ok(Expr::Two(*op, left, right))
-            }
-            Expr::TextOf(x) => Ok(Expr::TextOf(Boxed::new(alloc, x.get().copy(alloc)?)?)),
-            Expr::Len(x) => Ok(Expr::Len(Boxed::new(alloc, x.get().copy(alloc)?)?)),
-        }
-    }
 }

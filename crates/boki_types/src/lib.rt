@@ -4,7 +4,6 @@
 #![tactic(auto)]
 
 mod body;
-mod copies;
 mod event;
 mod expr;
 mod kind;

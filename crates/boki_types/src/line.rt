@@ -22,7 +22,7 @@ pub enum Miss {
 }
 
 /// What one step of an attempt did.
-#[derive(Debug, Drop)]
+#[derive(Drop)]
 pub enum StepLine {
     Idle,
     Over(Outcome),
@@ -62,7 +62,7 @@ pub enum StepLine {
 }
 
 /// The answer of an event.
-#[derive(Debug, Drop)]
+#[derive(Drop)]
 pub enum Line {
     Sent(Sent),
     Copied(u64),
@@ -97,7 +97,7 @@ pub enum Line {
 }
 
 /// What one step of a worker on the live log did; a record that is sent has its seqnum at once.
-#[derive(Debug, Drop)]
+#[derive(Drop)]
 pub enum FlowLine {
     Over(Outcome),
     WaitsCall,

@@ -1,7 +1,7 @@
 use lb_base::{List, Outcome, Value, Words};
 
 /// What a script asks of its runtime.
-#[derive(Clone, Debug, Drop, PartialEq, Eq)]
+#[derive(Drop)]
 pub enum Op {
     Read {
         key: Words,
@@ -40,14 +40,14 @@ pub enum Op {
 }
 
 /// Where a script stands: at an operation, or at its end.
-#[derive(Clone, Debug, Drop, PartialEq, Eq)]
+#[derive(Drop)]
 pub enum Ask {
     Op(Op),
     Done(Outcome),
 }
 
 /// The answer of an operation.
-#[derive(Clone, Debug, Drop, PartialEq, Eq)]
+#[derive(Drop)]
 pub enum Answer {
     /// Of a write and a push.
     Done,

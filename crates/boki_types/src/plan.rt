@@ -14,14 +14,14 @@ pub struct Setup {
 }
 
 /// An event, or events that are done so often.
-#[derive(Debug, Drop)]
+#[derive(Drop)]
 pub enum Item {
     One(Event),
     Repeat(u32, List<Event>),
 }
 
 /// What a run begins with, and what happens in it.
-#[derive(Debug, Drop)]
+#[derive(Drop)]
 pub struct Plan {
     pub setup: Setup,
     pub objects: List<(Words, Value)>,

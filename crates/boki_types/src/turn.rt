@@ -1,12 +1,8 @@
-ghost use Rattle.std.specs.Prelude.{◌≡◌};
-
-use crate::copies::{clone_queues, clone_results, clone_turns, clone_values};
 use crate::plan::Plan;
 use lb_base::{List, Outcome, Path, Value, Words};
-use std::alloc::AllocError;
 
 /// A turn of the failure-free execution.
-#[derive(Clone, Debug, Drop, PartialEq, Eq)]
+#[derive(Drop)]
 pub enum Turn {
     /// The request becomes known, with the function of this number.
     Submit {
@@ -26,7 +22,7 @@ pub enum Turn {
 }
 
 /// What a run has come to: its turns in order, the results by path, and the objects, queues and store names by name.
-#[derive(Debug, Drop, PartialEq, Eq)]
+#[derive(Drop)]
 pub struct Report {
     pub turns: List<Turn>,
     pub results: List<(Path, Outcome)>,
@@ -36,23 +32,8 @@ pub struct Report {
 }
 
 /// The text of a plan's head with turns: a plan without events, and each turn with the number of its line, from 1.
-#[derive(Debug, Drop)]
+#[derive(Drop)]
 pub struct TurnText {
     pub plan: Plan,
     pub turns: List<(u64, Turn)>,
-}
-
-// Written out, so that a clone is told to be the same value.
-impl Clone for Report {
-    ghost is_clone = { λ report copy. copy ≡ report };
-
-    fn clone(&self) -> Result<Report, AllocError> {
-        Ok(Report {
-            turns: clone_turns(&self.turns)?,
-            results: clone_results(&self.results)?,
-            objects: clone_values(&self.objects)?,
-            queues: clone_queues(&self.queues)?,
-            stores: clone_values(&self.stores)?,
-        })
-    }
 }

@@ -4,16 +4,16 @@ use Rattle.std.proofs.lemmas.Bool.{eqb-true, ne_eqb, eq-eqb}
 use Rattle.std.proofs.lemmas.Bool.Decides.{nat_tests}
 use Rattle.std.proofs.lemmas.List.{length-reverse}
 use mathlib.Core.List.{reverse-cons}
-use Rattle.boki_model.specs.Live.{Entry, Live, meets, live, is_live}
+use Rattle.boki_model.specs.Live.{LogRecord, Live, meets_condition, live, is_live}
 use Rattle.boki_model.specs.LogLaws.{FallBelow}
 use Rattle.boki_model.proofs.Logs.{live_falls, slice_get_push}
-use Rattle.eng_index.specs.Shown.{marks_of, mark_at}
+use Rattle.eng_index.specs.IndexState.{marks_of, mark_at}
 
 same_test : (i j : ℕ) → eqb (suc i) (suc j) ≡ eqb i j
 same_test i j = grind (arith, nat_tests)
 
 module _ {A : Type 0} where
-  pub length-marks_of : (log : List (Entry A)) → length (marks_of log) ≡ length log
+  pub length-marks_of : (log : List (LogRecord A)) → length (marks_of log) ≡ length log
   length-marks_of [] = refl
   length-marks_of (r ∷ log) = ap suc (length-marks_of log)
 
@@ -25,14 +25,14 @@ module _ {A : Type 0} where
   past_is_dead n seq [] fall le = refl
   past_is_dead n seq (x ∷ xs) fall le = ap (λ b. b || is_live seq xs) (ne_eqb seq x.seq (λ e. omega (arith, e, fall.1))) ∙ past_is_dead x.seq seq xs fall.2 (omega (arith, fall.1))
 
-  pub live_at : (seq : ℕ) (log : List (Entry A)) → is_live seq (live log) ≡ mark_at seq (reverse (marks_of log))
+  pub live_at : (seq : ℕ) (log : List (LogRecord A)) → is_live seq (live log) ≡ mark_at seq (reverse (marks_of log))
   live_at zero log = zero_is_dead (suc (length log)) (live log) (live_falls log)
   live_at (suc at) [] = refl
   live_at (suc at) (r ∷ log) =
-      new (live_at (suc at) log) (meets r.condition (live log)) (eqb at (length log)) refl
-      ∙ ap (λ n. unwrap_or (cond (eqb at n) (Some (meets r.condition (live log))) (slice_get (reverse (marks_of log)) at)) false) (sym (length-reverse (marks_of log) ∙ length-marks_of log))
-      ∙ ap (λ o. unwrap_or o false) (sym (slice_get_push (reverse (marks_of log)) (meets r.condition (live log)) at))
-      ∙ ap (λ l. unwrap_or (slice_get l at) false) (sym (reverse-cons (meets r.condition (live log)) (marks_of log)))
+      new (live_at (suc at) log) (meets_condition r.condition (live log)) (eqb at (length log)) refl
+      ∙ ap (λ n. unwrap_or (cond (eqb at n) (Some (meets_condition r.condition (live log))) (slice_get (reverse (marks_of log)) at)) false) (sym (length-reverse (marks_of log) ∙ length-marks_of log))
+      ∙ ap (λ o. unwrap_or o false) (sym (slice_get_push (reverse (marks_of log)) (meets_condition r.condition (live log)) at))
+      ∙ ap (λ l. unwrap_or (slice_get l at) false) (sym (reverse-cons (meets_condition r.condition (live log)) (marks_of log)))
     where
       new : is_live (suc at) (live log) ≡ unwrap_or (slice_get (reverse (marks_of log)) at) false → (m t : Bool) → eqb at (length log) ≡ t
           → is_live (suc at) (cond m (record { seq = suc (length log); tags = r.tags; holds = r.holds } ∷ live log) (live log)) ≡ unwrap_or (cond t (Some m) (slice_get (reverse (marks_of log)) at)) false

@@ -2,13 +2,11 @@
 #![tactic(auto)]
 
 mod lists;
-#[cfg(test)]
-mod tests;
 
-ghost use Rattle.std.specs.Prelude.{◌≡◌, ℕ, List, [], ◌∷◌, length, OnOk, OnErr, IsOkAnd, option_map};
-ghost use Rattle.boki_model.specs.Live.{Entry, entry_of, live, count, is_live};
-ghost use Rattle.boki_model.specs.Reads.{next, prev, nth_seq};
-ghost use Rattle.eng_index.specs.Shown.{Shows, IsUnchanged, mark_at};
+ghost use Rattle.std.specs.Prelude.{◌≡◌, ℕ, List, [], ◌∷◌, length, reverse, OnOk, OnErr, IsOkAnd, option_map};
+ghost use Rattle.boki_model.specs.Live.{LogRecord, entry_of, live, count, is_live};
+ghost use Rattle.boki_model.specs.Reads.{tagged_seqnums, next, prev, nth_seq};
+ghost use Rattle.eng_index.specs.IndexState.{IsIndexOf, IsUnchanged, mark_at};
 
 use crate::lists::Lists;
 use lb_base::{Memory, Record, Seqnum, Tag};
@@ -30,9 +28,9 @@ pub struct Index {
 
 impl Model for Index {
     ghost use Rattle.std.specs.Prelude.{map};
-    ghost use Rattle.eng_index.specs.Shown.{Kept};
+    ghost use Rattle.eng_index.specs.IndexState.{IndexState};
 
-    ghost Value = { Kept };
+    ghost Value = { IndexState };
 
     ghost view = { λ i. record { lists = map (λ e. (e.0, e.1.items)) i.lists.entries; marks = i.marks.items } };
 }
@@ -40,7 +38,7 @@ impl Model for Index {
 impl Index {
     /// The index of no record. It takes no memory, so it is always Ok.
     pub fn new(alloc: Global) -> Result<Index, Memory>
-        ensures { IsOkAnd result (Shows []) }
+        ensures { IsOkAnd result (IsIndexOf []) }
     {
         Ok(Index {
             alloc,
@@ -53,7 +51,7 @@ impl Index {
     ///
     /// Memory is taken first, so the record is added whole or not at all: after `Memory` each read answers as before.
     pub fn add(&mut self, rec: &Record) -> Result<(), Memory>
-        ensures ok { OnOk result ((log : List (Entry (List ℕ))) → Shows log self.old → Shows (entry_of rec.now ∷ log) self.new) }
+        ensures ok { OnOk result ((log : List (LogRecord (List ℕ))) → IsIndexOf log self.old → IsIndexOf (entry_of rec.now ∷ log) self.new) }
         ensures err { OnErr result (IsUnchanged self.old self.new) }
     {
         self.marks.reserve(1)?;
@@ -70,49 +68,57 @@ impl Index {
 
     /// How many records were added, live and dead.
     pub fn position(&self) -> u64
-        ensures { (log : List (Entry (List ℕ))) → Shows log self.now → result ≡ length log }
+        ensures log { (log : List (LogRecord (List ℕ))) → IsIndexOf log self.now → result ≡ length log }
+        ensures marks { result ≡ length self.now.marks }
     {
         self.marks.len() as u64
     }
 
     /// Whether there is a record with the seqnum, and it is live. Seqnums are counted from 1.
     pub fn live(&self, seq: Seqnum) -> bool
-        ensures { (log : List (Entry (List ℕ))) → Shows log self.now → result ≡ is_live seq.0 (live log) }
+        ensures { (log : List (LogRecord (List ℕ))) → IsIndexOf log self.now → result ≡ is_live seq.0 (live log) }
     {
         is_marked(self.marks.as_slice(), seq.0)
     }
 
     /// The first live record of the tag at or behind a seqnum, or None where there is none.
     pub fn next(&self, tag: Tag, from: Seqnum) -> Option<Seqnum>
-        ensures { (log : List (Entry (List ℕ))) → Shows log self.now → option_map (λ seq. seq.0) result ≡ next tag.0 from.0 (live log) }
+        ensures { (log : List (LogRecord (List ℕ))) → IsIndexOf log self.now → option_map (λ seq. seq.0) result ≡ next tag.0 from.0 (live log) }
     {
         lists::first_from(lists::of_tag(&self.lists, tag.0), from.0)
     }
 
     /// The last live record of the tag at or before a seqnum, or None where there is none.
     pub fn prev(&self, tag: Tag, upto: Seqnum) -> Option<Seqnum>
-        ensures { (log : List (Entry (List ℕ))) → Shows log self.now → option_map (λ seq. seq.0) result ≡ prev tag.0 upto.0 (live log) }
+        ensures { (log : List (LogRecord (List ℕ))) → IsIndexOf log self.now → option_map (λ seq. seq.0) result ≡ prev tag.0 upto.0 (live log) }
     {
         lists::last_upto(lists::of_tag(&self.lists, tag.0), upto.0)
     }
 
     /// The live record of the tag at a place, or None where there is none. Places are counted from 0, over the tag's live records.
     pub fn nth(&self, tag: Tag, place: u64) -> Option<Seqnum>
-        ensures { (log : List (Entry (List ℕ))) → Shows log self.now → option_map (λ seq. seq.0) result ≡ nth_seq tag.0 place (live log) }
+        ensures { (log : List (LogRecord (List ℕ))) → IsIndexOf log self.now → option_map (λ seq. seq.0) result ≡ nth_seq tag.0 place (live log) }
     {
         lists::at_place(lists::of_tag(&self.lists, tag.0), place as usize)
     }
 
     /// How many live records the tag has.
     pub fn count(&self, tag: Tag) -> u64
-        ensures { (log : List (Entry (List ℕ))) → Shows log self.now → result ≡ count tag.0 (live log) }
+        ensures { (log : List (LogRecord (List ℕ))) → IsIndexOf log self.now → result ≡ count tag.0 (live log) }
     {
         lists::of_tag(&self.lists, tag.0).len() as u64
     }
 
+    /// The seqnums of the tag's live records, ascending.
+    pub fn seqnums(&self, tag: Tag) -> &[u64]
+        ensures { (log : List (LogRecord (List ℕ))) → IsIndexOf log self.now → result.now ≡ reverse (tagged_seqnums tag.0 (live log)) }
+    {
+        lists::of_tag(&self.lists, tag.0)
+    }
+
     /// Takes each record out, so that the position is 0. It takes no memory.
     pub fn clear(&mut self)
-        ensures { Shows [] self.new }
+        ensures { IsIndexOf [] self.new }
     {
         self.lists.clear();
         self.marks.clear();

@@ -1,19 +1,4 @@
-pub mod Exclusion
-pub mod Sound
-pub mod Runs
-pub mod Reported
-pub mod Invariant
-pub mod MicroSteps
-pub mod Orders
-pub mod Opening
-pub mod Names
-pub mod Events
-pub mod Steps
-pub mod Versions
-pub mod Moves
-pub mod Exact
-pub mod Laws
-pub mod Ended
-pub mod Economy
-pub mod Held
-pub mod Kept
+-- A reader of the laws needs the first folder, and for the further laws the second.
+pub mod Theorem
+pub mod FurtherLaws
+pub mod Induction

@@ -1,25 +1,27 @@
 //! The main theorem, apart from any code: whatever happens, each invocation has effects as if it had run once. Each function
-//! here has an empty body, and a law as its contract; the definitions are in `specs/`. `exactly_once` is the theorem, and the
-//! others are the steps to it.
+//! here has an empty body, and a law as its contract. `specs/Theorem` has the theorem, which is `exactly_once`,
+//! `specs/FurtherLaws` the other laws of a log and of a machine, and `specs/Induction` the invariant by which all of them
+//! are proved. `docs/PROOF.md` tells how the proof goes.
 #![tactic(auto)]
 
-ghost use Rattle.exactly_once.specs.Economy.{EndedAreEconomic};
-ghost use Rattle.exactly_once.specs.Ended.{EndedAreLeft};
-ghost use Rattle.exactly_once.specs.Events.{QuietEventsKeep};
-ghost use Rattle.exactly_once.specs.Exact.{EventsKeep, EventsAreExact, ExactlyOnce};
-ghost use Rattle.exactly_once.specs.Exclusion.{ModesExclude, FloorsPass};
-ghost use Rattle.exactly_once.specs.Held.{HeldOnce};
-ghost use Rattle.exactly_once.specs.MicroSteps.{MicroStepsKeep};
-ghost use Rattle.exactly_once.specs.Kept.{DecidedAnswersStay};
-ghost use Rattle.exactly_once.specs.Laws.{AfterEvents, DuplicatesAgree};
-ghost use Rattle.exactly_once.specs.Moves.{MissesKeep, MovesKeep};
-ghost use Rattle.exactly_once.specs.Names.{NamesKeep};
-ghost use Rattle.exactly_once.specs.Opening.{OpeningHolds, HoldingIsReported};
-ghost use Rattle.exactly_once.specs.Orders.{OrdersKeep};
-ghost use Rattle.exactly_once.specs.Reported.{ReportsAgree};
-ghost use Rattle.exactly_once.specs.Runs.{SoundRuns};
-ghost use Rattle.exactly_once.specs.Steps.{StepsInOrder};
-ghost use Rattle.exactly_once.specs.Versions.{DecidedReadsStay, VersionsKeep};
+ghost use Rattle.exactly_once.specs.FurtherLaws.LogEconomy.{EndedAreEconomic};
+ghost use Rattle.exactly_once.specs.FurtherLaws.EndedInvocations.{EndedHaveNoEffect};
+ghost use Rattle.exactly_once.specs.Induction.QuietEvents.{QuietEventsKeepInvariant};
+ghost use Rattle.exactly_once.specs.Induction.EventKeeps.{EventsKeepInvariant};
+ghost use Rattle.exactly_once.specs.Theorem.ExactlyOnce.{EventsAreExact, ExactlyOnce};
+ghost use Rattle.exactly_once.specs.FurtherLaws.ModesAndFloors.{ModesExclude, FloorsPass};
+ghost use Rattle.exactly_once.specs.FurtherLaws.StoreBound.{HeldOnce};
+ghost use Rattle.exactly_once.specs.Induction.MicroSteps.{MicroStepsKeepInvariant};
+ghost use Rattle.exactly_once.specs.FurtherLaws.DecidedAnswers.{DecidedAnswersStay};
+ghost use Rattle.exactly_once.specs.FurtherLaws.AnyEvents.{AfterEvents, DuplicatesAgree};
+ghost use Rattle.exactly_once.specs.Induction.StepKeeps.{MissesKeepInvariant, MovesKeepInvariant};
+ghost use Rattle.exactly_once.specs.Induction.NamedValue.{StoringKeepsInvariant};
+ghost use Rattle.exactly_once.specs.Induction.OpeningHolds.{OpeningHolds, HoldingIsReported};
+ghost use Rattle.exactly_once.specs.Induction.OrderedRecord.{OrderingKeepsInvariant};
+ghost use Rattle.exactly_once.specs.Induction.ReportsAgree.{ReportsAgree};
+ghost use Rattle.exactly_once.specs.Induction.SoundLogsRun.{SoundRuns};
+ghost use Rattle.exactly_once.specs.FurtherLaws.StepRecords.{StepsInOrder};
+ghost use Rattle.exactly_once.specs.Induction.VersionKeeps.{DecidedReadsStay, PuttingKeepsInvariant};
 
 /// Of two invocations, one of mode R and one of mode W, the one whose Init comes first has ended before the other begins.
 pub fn modes_exclude()
@@ -47,13 +49,13 @@ pub fn reports_agree()
 {}
 
 /// The small changes that events are made of keep the invariant.
-pub fn micro_steps_keep()
-    ensures { MicroStepsKeep }
+pub fn micro_steps_keep_invariant()
+    ensures { MicroStepsKeepInvariant }
 {}
 
 /// Ordering a record that was sent keeps the invariant.
-pub fn orders_keep()
-    ensures { OrdersKeep }
+pub fn ordering_keeps_invariant()
+    ensures { OrderingKeepsInvariant }
 {}
 
 /// The invariant holds at the opening.
@@ -66,34 +68,34 @@ pub fn holding_is_reported()
     ensures { HoldingIsReported }
 {}
 
-/// Storing a value that is owed, under its name, keeps the invariant.
-pub fn names_keep()
-    ensures { NamesKeep }
+/// Storing the value of an asked write under its name keeps the invariant.
+pub fn storing_keeps_invariant()
+    ensures { StoringKeepsInvariant }
 {}
 
 /// Events that send and order nothing keep the invariant.
-pub fn quiet_events_keep()
-    ensures { QuietEventsKeep }
+pub fn quiet_events_keep_invariant()
+    ensures { QuietEventsKeepInvariant }
 {}
 
 /// Putting in the version of an attempt's next free write keeps the invariant.
-pub fn versions_keep()
-    ensures { VersionsKeep }
+pub fn putting_keeps_invariant()
+    ensures { PuttingKeepsInvariant }
 {}
 
 /// A step of an attempt keeps the invariant, and leaves the attempt where the records put it.
-pub fn moves_keep()
-    ensures { MovesKeep }
+pub fn moves_keep_invariant()
+    ensures { MovesKeepInvariant }
 {}
 
 /// The store call of a step whose answer is lost keeps the invariant.
-pub fn misses_keep()
-    ensures { MissesKeep }
+pub fn misses_keep_invariant()
+    ensures { MissesKeepInvariant }
 {}
 
 /// Every event that a plan can have keeps the invariant of the machine.
-pub fn events_keep()
-    ensures { EventsKeep }
+pub fn events_keep_invariant()
+    ensures { EventsKeepInvariant }
 {}
 
 /// **Exactly once, for any events in any number**: from the opening, the failure-free execution of the turns is defined, and its
@@ -115,8 +117,8 @@ pub fn duplicates_agree()
 /// Ended invocations are left alone: once an invocation has its Finish, no step of an attempt of it, and no store call whose
 /// answer is lost, changes a version, the fence of a key, the floor or a named value, but for a value that stands in its record
 /// too; no step record of it that was sent becomes live; and only such attempts are told that the store has dropped something.
-pub fn ended_are_left()
-    ensures { AfterEvents EndedAreLeft }
+pub fn ended_have_no_effect()
+    ensures { AfterEvents EndedHaveNoEffect }
 {}
 
 /// Economy of the log: an invocation that has ended has two step records, and one for each operation that isn't free. In mode T

@@ -1,3 +1,4 @@
+-- The statement of the central theorem rests on this file.
 -- Paths of invocations: the number of a request, and then the ordinal of each spawn.
 use Rattle.std.specs.Prelude.{ℕ, ◌&&◌, Bool, true, false, IsTrue, List, [], ◌∷◌, ◌++◌, length, take, Option, Some, None, nat_lt, if◌then◌else◌}
 

@@ -6,7 +6,7 @@ use mathlib.Core.List.{IsPrefix}
 use prog.Atomic.{either}
 use Rattle.logbook.specs.Pages.{Cell, cell, keeps, no_nib, step, Moves, Goes}
 use Rattle.live_log.specs.Appended.{Appended}
-use Rattle.live_log.specs.Histories.{IsKept, Adds}
+use Rattle.live_log.specs.History.{HeadIsLength, Adds}
 use Rattle.live_log.proofs.Lists.{prefix_whole}
 
 abbrev pub shown : List Appended → List Appended
@@ -17,7 +17,7 @@ moved xs ys n = Unit {0}
 
 pub adds_goes : (log v : List Appended) (e : Appended) (old : ℕ) → old ≤ length v → IsPrefix v log
     → (b : Bool) → (length log == old) ≡ b
-    → Goes IsKept shown moved 0 (v, (no_nib, None)) (λ n. either (n == old) (old + 1) n) (Adds (step 0 old (old + 1) e) (v, (no_nib, None))) ((length log, true) ∷ (0, true) ∷ []) log
+    → Goes HeadIsLength shown moved 0 (v, (no_nib, None)) (λ n. either (n == old) (old + 1) n) (Adds (step 0 old (old + 1) e) (v, (no_nib, None))) ((length log, true) ∷ (0, true) ∷ []) log
 adds_goes log v e old len pre true is =
     let here : length log ≡ old = grind (arith, nat_tests) in
     let same : v ≡ log = prefix_whole v log pre (omega arith) in
@@ -44,11 +44,11 @@ adds_goes log v e old len pre false is =
 
 -- whatever the book is, the exchange adds the entry to all that was seen, or finds another length
 pub adds_moves : (v : List Appended) (e : Appended) (old : ℕ) → old ≤ length v
-    → Moves IsKept shown moved 0 (v, (no_nib, None)) (λ n. either (n == old) (old + 1) n) (Adds (step 0 old (old + 1) e) (v, (no_nib, None)))
+    → Moves HeadIsLength shown moved 0 (v, (no_nib, None)) (λ n. either (n == old) (old + 1) n) (Adds (step 0 old (old + 1) e) (v, (no_nib, None)))
 adds_moves v e old len cs log kept pre away =
-    let P : List Cell → Type 0 = λ c. (0 < length c) × ((cell c 0).1 ≡ true) × Goes IsKept shown moved 0 (v, (no_nib, None)) (λ n. either (n == old) (old + 1) n) (Adds (step 0 old (old + 1) e) (v, (no_nib, None))) c log in
+    let P : List Cell → Type 0 = λ c. (0 < length c) × ((cell c 0).1 ≡ true) × Goes HeadIsLength shown moved 0 (v, (no_nib, None)) (λ n. either (n == old) (old + 1) n) (Adds (step 0 old (old + 1) e) (v, (no_nib, None))) c log in
     subst P (sym kept.words) (omega arith, refl, adds_goes log v e old len pre (length log == old) refl)
 
 -- where the exchange found what was asked, what it had learnt is what it had
-pub learnt_nothing : (mine both : List Appended) (count : ℕ) → count ≡ length mine → IsPrefix mine both → length both ≡ count → both ≡ mine
-learnt_nothing mine both count is pre len = sym (prefix_whole mine both pre (omega (arith, is, len)))
+pub learnt_nothing : (appends both : List Appended) (count : ℕ) → count ≡ length appends → IsPrefix appends both → length both ≡ count → both ≡ appends
+learnt_nothing appends both count is pre len = sym (prefix_whole appends both pre (omega (arith, is, len)))

@@ -2,8 +2,8 @@
 use Rattle.std.proofs.Common.{◌≡◌, ℕ, zero, suc, ◌+◌, ◌<◌, ◌≤◌, List, [], ◌∷◌, ◌++◌, length, map, reverse, take, get_or, slice_get, refl, sym, ap, ◌∙◌, subst, arith}
 use Rattle.std.proofs.lemmas.List.{length-map, length-reverse, take_more, reverse-append}
 use mathlib.Core.List.{IsPrefix}
-use Rattle.boki_model.specs.Live.{Entry, entry_of}
-use Rattle.eng_index.specs.Shown.{Kept, Shows, IsUnchanged}
+use Rattle.boki_model.specs.Live.{LogRecord, entry_of}
+use Rattle.eng_index.specs.IndexState.{IndexState, IsIndexOf, IsUnchanged}
 use Rattle.eng_index.proofs.Added.{marks_count}
 use Rattle.live_log.specs.Appended.{Appended, log_of}
 use Rattle.live_log.specs.Engines.{IsIndexed}
@@ -26,22 +26,22 @@ length_take (suc n) [] le = absurd (omega (arith, le))
 length_take (suc n) (x ∷ xs) le = ap suc (length_take n xs (omega (arith, le)))
 
 -- an index of so many records has so many marks
-pub shown_marks : (copied : List Appended) (n : ℕ) (index : Kept) → n ≤ length copied → Shows (log_of (take n copied)) index → length index.marks ≡ n
+pub shown_marks : (copied : List Appended) (n : ℕ) (index : IndexState) → n ≤ length copied → IsIndexOf (log_of (take n copied)) index → length index.marks ≡ n
 shown_marks copied n index le shows = marks_count (log_of (take n copied)) index shows ∙ length_log (take n copied) ∙ length_take n copied le
 
-pub shown_indexed : (copied : List Appended) (n : ℕ) (index : Kept) → n ≤ length copied → Shows (log_of (take n copied)) index → IsIndexed copied index
+pub shown_indexed : (copied : List Appended) (n : ℕ) (index : IndexState) → n ≤ length copied → IsIndexOf (log_of (take n copied)) index → IsIndexed copied index
 shown_indexed copied n index le shows =
     let same : n ≡ length index.marks = sym (shown_marks copied n index le shows) in
-    record { within = subst (λ (m : ℕ). m ≤ length copied) same le; shows = subst (λ (m : ℕ). Shows (log_of (take m copied)) index) same shows }
+    record { within = subst (λ (m : ℕ). m ≤ length copied) same le; shows = subst (λ (m : ℕ). IsIndexOf (log_of (take m copied)) index) same shows }
 
-pub shown_unchanged : (log : List (Entry (List ℕ))) (old new : Kept) → Shows log old → IsUnchanged old new → Shows log new
+pub shown_unchanged : (log : List (LogRecord (List ℕ))) (old new : IndexState) → IsIndexOf log old → IsUnchanged old new → IsIndexOf log new
 shown_unchanged log old new shows u = record { lists = λ tag. u.lists tag ∙ shows.lists tag; marks = u.marks ∙ shows.marks }
 
 -- the next record of the copy was added
-pub shown_more : (copied : List Appended) (n : ℕ) (x d : Appended) (new : Kept) → n < length copied → x ≡ get_or copied n d → Shows (entry_of x.1 ∷ log_of (take n copied)) new → Shows (log_of (take (n + 1) copied)) new
+pub shown_more : (copied : List Appended) (n : ℕ) (x d : Appended) (new : IndexState) → n < length copied → x ≡ get_or copied n d → IsIndexOf (entry_of x.1 ∷ log_of (take n copied)) new → IsIndexOf (log_of (take (n + 1) copied)) new
 shown_more copied n x d new lt is shows =
     let more : take (n + 1) copied ≡ take n copied ++ x ∷ [] = take_more copied n d lt ∙ ap (λ (y : Appended). take n copied ++ y ∷ []) (sym is) in
-    subst (λ (l : List (Entry (List ℕ))). Shows l new) (sym (ap log_of more ∙ log_more (take n copied) x)) shows
+    subst (λ (l : List (LogRecord (List ℕ))). IsIndexOf l new) (sym (ap log_of more ∙ log_more (take n copied) x)) shows
 
 -- what begins a list has its first records
 pub prefix_takes : {A : Type 0} (n : ℕ) (xs ys : List A) → IsPrefix xs ys → n ≤ length xs → take n xs ≡ take n ys
@@ -51,13 +51,13 @@ prefix_takes (suc n) (x ∷ xs) [] p le = absurd (cc (p.1))
 prefix_takes (suc n) (x ∷ xs) (y ∷ ys) p le = let rest = prefix_takes n xs ys (p.0, cc (p.1)) (omega (arith, le)) in cc (p.1, rest)
 
 -- an index of a copy is one of each longer copy
-pub indexed_longer : (copied now : List Appended) (index : Kept) → IsPrefix copied now → IsIndexed copied index → IsIndexed now index
+pub indexed_longer : (copied now : List Appended) (index : IndexState) → IsPrefix copied now → IsIndexed copied index → IsIndexed now index
 indexed_longer copied now index p i =
     let l : length copied ≤ length now = prefix_length copied now p in
-    record { within = omega (arith, i.within, l); shows = subst (λ (t : List Appended). Shows (log_of t) index) (prefix_takes (length index.marks) copied now p i.within) i.shows }
+    record { within = omega (arith, i.within, l); shows = subst (λ (t : List Appended). IsIndexOf (log_of t) index) (prefix_takes (length index.marks) copied now p i.within) i.shows }
 
 -- the log that the index shows, by what was seen
-pub shows_seen : (copied seen : List Appended) (index : Kept) → IsPrefix copied seen → IsIndexed copied index → Shows (log_of (take (length index.marks) seen)) index
+pub shows_seen : (copied seen : List Appended) (index : IndexState) → IsPrefix copied seen → IsIndexed copied index → IsIndexOf (log_of (take (length index.marks) seen)) index
 shows_seen copied seen index p i = (indexed_longer copied seen index p i).shows
 
 get_taken : (n k : ℕ) (xs : List Appended) → k < n → slice_get (take n xs) k ≡ slice_get xs k

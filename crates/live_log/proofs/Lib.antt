@@ -1,7 +1,7 @@
 pub mod Lists
 pub mod Adding
-pub mod Rules
-pub mod Numbers
+pub mod ListRule
+pub mod AppendRights
 pub mod Engines
-pub mod Settling
+pub mod ClosedList
 pub mod Indexed

@@ -1,10 +1,9 @@
 pub mod Appended
-pub mod Histories
-pub mod Rule
-pub mod Ends
-pub mod Counts
-pub mod Tallies
-pub mod Blanks
+pub mod History
+pub mod ListRule
+pub mod WriterAndReader
+pub mod AppendCounts
+pub mod UnnamedLedgers
 pub mod Engines
 pub mod Closing
 pub mod Faults

@@ -2,13 +2,14 @@
 ghost use Rattle.std.specs.Prelude.{◌≡◌, ◌≢◌, ◌<◌, ◌≤◌, ◌⊎◌, IsErr, ◌++◌, ◌∷◌, [], Some, None, IsSome, ℕ, length, vec_len, IfOk, OnOk, OnErr, All, false, true};
 ghost use mathlib.Core.List.{IsPrefix};
 ghost use Rattle.left_right.specs.Sides.{view};
-ghost use Rattle.live_log.specs.Rule.{reached};
-ghost use Rattle.live_log.specs.Ends.{shown_of, waiting_of};
+ghost use Rattle.live_log.specs.ListRule.{state_of};
+ghost use Rattle.live_log.specs.WriterAndReader.{published_of, pending_of};
 
 use crate::appended::{Appended, copy_of};
-use crate::front::{Front, History};
-use crate::rule::{Notes, Published, Sees, View};
-use crate::shelf::{Shelf, Step};
+use crate::fault::LiveFault;
+use crate::history::{History, SeenPrefix};
+use crate::list_rule::{LastSeen, ListAccess, ListRule, NewReader};
+use crate::published_list::{PublishedList, Step};
 use lb_base::{List, Memory};
 use left_right::reader::Reader;
 use left_right::writer::Writer;
@@ -22,44 +23,44 @@ use std::sync::Wait;
 /// many records of the history were not published for want of memory, which is 0 or 1. While it is 1 nothing more is published.
 pub struct Hall {
     // A call of the writer has it while it runs.
-    writer: Option<Writer<Shelf, Step, View, Published>>,
+    writer: Option<Writer<PublishedList, Step, LastSeen, ListRule>>,
     history: History,
 }
 
 impl Model for Hall {
     ghost use Rattle.std.specs.Prelude.{◌≡◌, ◌≤◌, ◌-◌, length, IsSome};
     ghost use mathlib.Core.List.{IsPrefix};
-    ghost use Rattle.live_log.specs.Rule.{reached};
-    ghost use Rattle.live_log.specs.Ends.{Posted, shown_of, waiting_of};
+    ghost use Rattle.live_log.specs.ListRule.{state_of};
+    ghost use Rattle.live_log.specs.WriterAndReader.{HallView, published_of, pending_of};
 
-    ghost Value = { Posted };
+    ghost Value = { HallView };
 
-    ghost view = { λ h. record { book = (shown_of h.writer).front.book; log = (shown_of h.writer).front.log; waits = length h.history.log - length (shown_of h.writer).front.log } };
+    ghost view = { λ h. record { book = (published_of h.writer).prefix.book; log = (published_of h.writer).prefix.log; pending = length h.history.log - length (published_of h.writer).prefix.log } };
 
-    ghost invariant = { λ h. IsSome h.writer × (shown_of h.writer ≡ reached (shown_of h.writer).front) × ((shown_of h.writer).front.book ≡ h.history.book) × IsPrefix (shown_of h.writer).front.log h.history.log × (length (waiting_of h.writer) ≤ length h.history.log - length (shown_of h.writer).front.log) };
+    ghost invariant = { λ h. IsSome h.writer × (published_of h.writer ≡ state_of (published_of h.writer).prefix) × ((published_of h.writer).prefix.book ≡ h.history.book) × IsPrefix (published_of h.writer).prefix.log h.history.log × (length (pending_of h.writer) ≤ length h.history.log - length (published_of h.writer).prefix.log) };
 }
 
-/// A reader of a published list. Contracts see it as the list that it has seen, the longest that it has seen or was told, and the
+/// A reader of a published list. Contracts see it as the list that it has seen, the longest that it has seen or learned of, and the
 /// history of which both are beginnings.
 #[derive(Drop)]
 pub struct Place {
     alloc: Global,
     // A look has it while it lasts.
-    reader: Option<Reader<Shelf, View, Published>>,
-    seen: Front,
-    known: Front,
+    reader: Option<Reader<PublishedList, LastSeen, ListRule>>,
+    seen: SeenPrefix,
+    known: SeenPrefix,
 }
 
 impl Model for Place {
     ghost use Rattle.std.specs.Prelude.{◌≡◌, IsSome};
     ghost use mathlib.Core.List.{IsPrefix};
-    ghost use Rattle.live_log.specs.Ends.{Placed, place_view, book_of};
+    ghost use Rattle.live_log.specs.WriterAndReader.{PlaceView, reader_view, book_seen};
 
-    ghost Value = { Placed };
+    ghost Value = { PlaceView };
 
     ghost view = { λ p. record { book = p.known.book; seen = p.seen.log; known = p.known.log } };
 
-    ghost invariant = { λ p. IsSome p.reader × IsSome (place_view p.reader) × (book_of (place_view p.reader) ≡ p.known.book) × (p.seen.book ≡ p.known.book) × IsPrefix p.seen.log p.known.log };
+    ghost invariant = { λ p. IsSome p.reader × IsSome (reader_view p.reader) × (book_seen (reader_view p.reader) ≡ p.known.book) × (p.seen.book ≡ p.known.book) × IsPrefix p.seen.log p.known.log };
 }
 
 /// How a look at the published list ended.
@@ -73,11 +74,11 @@ pub enum Entered {
     Memory,
 }
 
-fn put_back<T>(place: &mut Option<T>, value: T)
-    requires { place.old ≡ None }
-    ensures { place.new ≡ Some value }
+fn put_back<T>(slot: &mut Option<T>, value: T)
+    requires { slot.old ≡ None }
+    ensures { slot.new ≡ Some value }
 {
-    match mem::replace(place, Some(value)) {
+    match mem::replace(slot, Some(value)) {
         None => {}
         Some(_) => unreachable!(),
     }
@@ -97,22 +98,22 @@ impl Drop for Hall {
 // Publishes one step. After `Memory` readers see what they saw.
 fn publish_one<R: Wait>(
     rt: &R,
-    place: &mut Option<Writer<Shelf, Step, View, Published>>,
+    slot: &mut Option<Writer<PublishedList, Step, LastSeen, ListRule>>,
     step: Step,
 ) -> Result<(), Memory>
-    requires here { IsSome place.old × (waiting_of place.old ≡ []) }
-    requires next { (shown_of place.old ≡ reached (shown_of place.old).front) × (step.front ≡ record { book = (shown_of place.old).front.book; log = (shown_of place.old).front.log ++ step.item ∷ [] }) }
-    ensures here { IsSome place.new }
-    ensures published { OnOk result ((shown_of place.new ≡ reached step.front) × (waiting_of place.new ≡ [])) }
-    ensures kept { OnErr result ((shown_of place.new ≡ shown_of place.old) × (length (waiting_of place.new) ≤ 1)) }
+    requires here { IsSome slot.old × (pending_of slot.old ≡ []) }
+    requires next { (published_of slot.old ≡ state_of (published_of slot.old).prefix) × (step.prefix ≡ record { book = (published_of slot.old).prefix.book; log = (published_of slot.old).prefix.log ++ step.item ∷ [] }) }
+    ensures here { IsSome slot.new }
+    ensures published { OnOk result ((published_of slot.new ≡ state_of step.prefix) × (pending_of slot.new ≡ [])) }
+    ensures kept { OnErr result ((published_of slot.new ≡ published_of slot.old) × (length (pending_of slot.new) ≤ 1)) }
 {
-    let mut writer = place.take().unwrap();
+    let mut writer = slot.take().unwrap();
     if writer.append(step).is_err() {
-        put_back(place, writer);
+        put_back(slot, writer);
         return Err(Memory);
     }
-    let (writer, done) = writer.publish_as::<Sees, R>(rt);
-    put_back(place, writer);
+    let (writer, done) = writer.publish_as::<ListAccess, R>(rt);
+    put_back(slot, writer);
     done?;
     Ok(())
 }
@@ -122,17 +123,17 @@ impl Hall {
     pub(crate) fn len(&self) -> u64
         ensures { result ≡ length self.now.log }
     {
-        self.front().len()
+        self.prefix().len()
     }
 
     /// What is published.
-    pub(crate) fn front(&self) -> &Front
+    pub(crate) fn prefix(&self) -> &SeenPrefix
         ensures { result.now ≡ record { book = self.now.book; log = self.now.log } }
     {
-        self.writer.as_ref().unwrap().published().front()
+        self.writer.as_ref().unwrap().published().prefix()
     }
 
-    /// Publishes one record, and tells the reader of it. After `Memory` readers see what they saw. Where publishing found no memory,
+    /// Publishes one record, and lets the reader learn of it. After `Memory` readers see what they saw. Where publishing found no memory,
     /// the record waits for ever, and each later call answers `Memory` and changes nothing.
     #[tactic(auto, using(crate::proofs::Lists::prefix_whole, crate::proofs::Lists::prefix_more, crate::proofs::Lists::prefix_self, crate::proofs::Lists::prefix_trans, crate::proofs::Lists::none_left, crate::proofs::Lists::prefix_length))]
     pub(crate) fn publish<R: Wait>(
@@ -143,17 +144,17 @@ impl Hall {
     ) -> Result<(), Memory>
         requires { place.old.book ≡ self.old.book }
         ensures book { self.new.book ≡ self.old.book }
-        ensures published { OnOk result ((self.new.log ≡ self.old.log ++ item ∷ []) × (self.new.waits ≡ 0) × IsPrefix place.old.known self.old.log × (place.new ≡ record place.old { known = self.new.log })) }
+        ensures published { OnOk result ((self.new.log ≡ self.old.log ++ item ∷ []) × (self.new.pending ≡ 0) × IsPrefix place.old.known self.old.log × (place.new ≡ record place.old { known = self.new.log })) }
         ensures kept { OnErr result ((self.new.log ≡ self.old.log) × (place.new ≡ place.old)) }
-        ensures waits { OnErr result ((self.new ≡ self.old) ⊎ ((self.old.waits ≡ 0) × (self.new.waits ≡ 1))) }
-        ensures stuck { 0 < self.old.waits → IsErr result × (self.new ≡ self.old) }
+        ensures pending { OnErr result ((self.new ≡ self.old) ⊎ ((self.old.pending ≡ 0) × (self.new.pending ≡ 1))) }
+        ensures blocked { 0 < self.old.pending → IsErr result × (self.new ≡ self.old) }
     {
-        if is_stuck(&self.writer, &self.history) || !self.history.add(&item, &place.known) {
+        if has_pending(&self.writer, &self.history) || !self.history.add(&item, &place.known) {
             return Err(Memory);
         }
-        let front = self.history.front().again();
-        publish_one(rt, &mut self.writer, Step { item, front })?;
-        place.known = self.history.front().again();
+        let prefix = self.history.prefix().copy();
+        publish_one(rt, &mut self.writer, Step { item, prefix })?;
+        place.known = self.history.prefix().copy();
         Ok(())
     }
 
@@ -170,16 +171,19 @@ impl Hall {
 }
 
 // Whether a record of the history was not published. Then none is from now on.
-fn is_stuck(writer: &Option<Writer<Shelf, Step, View, Published>>, history: &History) -> bool
+fn has_pending(
+    writer: &Option<Writer<PublishedList, Step, LastSeen, ListRule>>,
+    history: &History,
+) -> bool
     requires { IsSome writer.now }
-    ensures { result ≡ false → length history.now.log ≡ length (shown_of writer.now).front.log }
+    ensures { result ≡ false → length history.now.log ≡ length (published_of writer.now).prefix.log }
 {
-    history.front().len() != writer.as_ref().unwrap().published().front().len()
+    history.prefix().len() != writer.as_ref().unwrap().published().prefix().len()
 }
 
 // Adds what the list has behind the copy to the copy, or as much of it as there is room for.
 #[tactic(auto, using(crate::proofs::Lists::take_begins, crate::proofs::Lists::prefix_take, crate::proofs::Lists::prefix_self, crate::proofs::Lists::prefix_more, crate::proofs::Lists::prefix_length))]
-fn follow(alloc: Global, list: &[Appended], copy: &mut List<Appended>) -> Result<(), Memory>
+fn copy_rest(alloc: Global, list: &[Appended], copy: &mut List<Appended>) -> Result<(), Memory>
     requires { IsPrefix copy.old list.now }
     ensures grows { IsPrefix copy.old copy.new }
     ensures within { IsPrefix copy.new list.now }
@@ -193,25 +197,26 @@ fn follow(alloc: Global, list: &[Appended], copy: &mut List<Appended>) -> Result
 }
 
 impl Place {
-    /// How much it has seen or was told.
-    pub(crate) fn told(&self) -> u64
+    /// How much it has seen or learned of.
+    pub(crate) fn known_len(&self) -> u64
         ensures { result ≡ length self.now.known }
     {
         self.known.len()
     }
 
-    /// Is told what is published.
+    /// Learns what is published.
     #[tactic(auto, using(crate::proofs::Lists::prefix_trans))]
-    pub(crate) fn learn(&mut self, front: &Front)
-        requires { self.old.book ≡ front.now.book }
+    pub(crate) fn learn(&mut self, prefix: &SeenPrefix)
+        requires { self.old.book ≡ prefix.now.book }
         ensures same { self.new ≡ record self.old { known = self.new.known } }
-        ensures known { IsPrefix self.old.known self.new.known × IsPrefix front.now.log self.new.known }
+        ensures known { IsPrefix self.old.known self.new.known × IsPrefix prefix.now.log self.new.known }
     {
-        self.known.learn(front);
+        self.known.learn(prefix);
     }
 
-    /// Looks at the list that is published once, and adds what the copy lacks of it. A list that is shorter than what was told is refused.
-    #[tactic(auto, using(crate::proofs::Rules::fits_book, crate::proofs::Lists::prefix_trans, crate::proofs::Lists::prefix_self))]
+    /// Looks at the list that is published once, and adds what the copy lacks of it. A list that is shorter than what was
+    /// learned is refused.
+    #[tactic(auto, using(crate::proofs::ListRule::fits_book, crate::proofs::Lists::prefix_trans, crate::proofs::Lists::prefix_self))]
     pub(crate) fn enter(&mut self, copy: &mut List<Appended>) -> Entered
         requires { IsPrefix copy.old self.old.seen }
         ensures book { self.new.book ≡ self.old.book }
@@ -222,15 +227,15 @@ impl Place {
         ensures done { result ≡ Entered.Done → copy.new ≡ self.new.seen }
     {
         let reader = self.reader.take().unwrap();
-        match reader.enter_as::<Sees>() {
+        match reader.enter_as::<ListAccess>() {
             Ok(reading) => {
-                if !self.known.begins(reading.get().front()) {
+                if !self.known.is_prefix_of(reading.get().prefix()) {
                     self.reader = Some(reading.leave());
                     return Entered::Refused;
                 }
-                let followed = follow(self.alloc, reading.get().list(), copy);
-                self.seen = reading.get().front().again();
-                self.known = reading.get().front().again();
+                let followed = copy_rest(self.alloc, reading.get().list(), copy);
+                self.seen = reading.get().prefix().copy();
+                self.known = reading.get().prefix().copy();
                 self.reader = Some(reading.leave());
                 match followed {
                     Ok(()) => Entered::Done,
@@ -245,31 +250,35 @@ impl Place {
     }
 }
 
-/// Makes the writer of an empty list, and its readers.
+/// Makes the writer of an empty list, and its readers. `Refused` is whatever the two copies answer but success, and `Memory` is want
+/// of memory outside them.
 pub(crate) fn open_hall<R: Wait>(
     rt: &R,
     alloc: Global,
     places: u32,
-) -> Result<(Hall, Vec<Place>), Memory>
+) -> Result<(Hall, Vec<Place>), LiveFault>
     requires { 0 < places }
     ensures hall { IfOk result (λ o. o.0.log ≡ []) }
     ensures places { IfOk result (λ o. (vec_len o.1 ≡ places) × All (λ p. p ≡ record { book = o.0.book; seen = []; known = [] }) o.1.items) }
 {
     let history = History::new();
-    let first = Shelf::new(alloc, history.front().again());
-    let second = Shelf::new(alloc, history.front().again());
-    let writer: Writer<Shelf, Step, View, Published> = Writer::new(
+    let first = PublishedList::new(alloc, history.prefix().copy());
+    let second = PublishedList::new(alloc, history.prefix().copy());
+    let made = Writer::<PublishedList, Step, LastSeen, ListRule>::new(
         alloc,
         first,
         second,
         places as usize,
-    )?;
-    let (mut writer, shown) = writer.publish_as::<Sees, R>(rt);
+    );
+    let Ok(writer) = made else {
+        return Err(LiveFault::Refused);
+    };
+    let (mut writer, shown) = writer.publish_as::<ListAccess, R>(rt);
     if shown.is_err() {
         drop(writer.take(rt));
-        return Err(Memory);
+        return Err(LiveFault::Refused);
     }
-    match readers(alloc, &mut writer, history.front(), places) {
+    match readers(alloc, &mut writer, history.prefix(), places) {
         Ok(readers) => Ok((
             Hall {
                 writer: Some(writer),
@@ -277,9 +286,9 @@ pub(crate) fn open_hall<R: Wait>(
             },
             readers,
         )),
-        Err(e) => {
+        Err(fault) => {
             drop(writer.take(rt));
-            Err(e)
+            Err(fault)
         }
     }
 }
@@ -287,24 +296,29 @@ pub(crate) fn open_hall<R: Wait>(
 // Makes readers that have seen nothing of the history that the writer knows.
 fn readers(
     alloc: Global,
-    writer: &mut Writer<Shelf, Step, View, Published>,
-    front: &Front,
+    writer: &mut Writer<PublishedList, Step, LastSeen, ListRule>,
+    prefix: &SeenPrefix,
     places: u32,
-) -> Result<Vec<Place>, Memory>
-    requires { (view writer.old.desk.place ≡ Some front.now) × (front.now.log ≡ []) }
+) -> Result<Vec<Place>, LiveFault>
+    requires { (view writer.old.desk.place ≡ Some prefix.now) × (prefix.now.log ≡ []) }
     ensures kept { (writer.new.desk.shown ≡ writer.old.desk.shown) × (writer.new.log ≡ writer.old.log) × (writer.new.behind ≡ writer.old.behind) }
-    ensures places { IfOk result (λ r. (vec_len r ≡ places) × All (λ p. p ≡ record { book = front.now.book; seen = []; known = [] }) r.items) }
+    ensures places { IfOk result (λ r. (vec_len r ≡ places) × All (λ p. p ≡ record { book = prefix.now.book; seen = []; known = [] }) r.items) }
 {
     let mut readers = Vec::new(alloc);
     for _place in 0..places {
-        let mut reader = writer.factory().reader()?;
-        reader.learn::<Notes>(writer.tell::<Notes>());
-        readers.push(Place {
+        let Ok(mut reader) = writer.factory().reader() else {
+            return Err(LiveFault::Refused);
+        };
+        reader.learn::<NewReader>(writer.tell::<NewReader>());
+        let place = Place {
             alloc,
             reader: Some(reader),
-            seen: front.again(),
-            known: front.again(),
-        })?;
+            seen: prefix.copy(),
+            known: prefix.copy(),
+        };
+        if readers.push(place).is_err() {
+            return Err(LiveFault::Memory);
+        }
     }
     Ok(readers)
 }

@@ -4,29 +4,27 @@
 //! exchanges them. Each engine keeps a copy of its own of what it has seen, with an index.
 #![tactic(auto)]
 
+mod append_counts;
 mod appended;
-mod blanks;
 mod closing;
-mod desk;
 mod door;
 mod engine;
 mod fault;
-mod front;
 mod hall;
-mod law;
+mod history;
+mod history_rule;
+mod learning;
+mod list_rule;
 mod log;
 mod naming;
-mod rule;
-mod shelf;
-mod tallies;
-#[cfg(test)]
-mod tests;
-mod told;
+mod published_list;
+mod sequencer;
+mod unnamed_ledgers;
 
 pub use door::{Door, RealDoor};
 pub use engine::LiveEngine;
 pub use fault::{LiveFault, Stop};
 pub use hall::{Entered, Hall, Place};
+pub use learning::learn_then_catch_up;
 pub use log::{CloseFault, LiveLog, Opened};
 pub use naming::Naming;
-pub use told::learn_then_catch_up;

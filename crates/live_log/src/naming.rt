@@ -15,7 +15,7 @@ pub trait Naming {
 }
 
 impl Naming for Brand {
-    ghost use Rattle.live_log.specs.Histories.{no_book};
+    ghost use Rattle.live_log.specs.History.{no_book};
 
     ghost book = { no_book };
 
@@ -25,11 +25,11 @@ impl Naming for Brand {
 }
 
 /// The ledger of the engine with this number. No value of it is made.
-pub(crate) struct Nth<J, const E: u32> {
+pub(crate) struct EngineLedger<J, const E: u32> {
     of: PhantomData<J>,
 }
 
-impl<J: Naming, const E: u32> Ledger for Nth<J, E> {
+impl<J: Naming, const E: u32> Ledger for EngineLedger<J, E> {
     ghost name = { J.names E };
 
     ghost parts = { 1 };

@@ -6,7 +6,7 @@ use Rattle.boki_model.specs.Order.{last_vector}
 use Rattle.boki_model.specs.OrderLaws.{AreAtMost}
 use Rattle.boki_model.specs.Entries.{count_at}
 use Rattle.boki_model.proofs.EntryPlaces.{count_most}
-use Rattle.meta_order.specs.Rows.{row, vectors_to, recorded, IsSound}
+use Rattle.meta_order.specs.Rows.{row, vectors_to, metalog_of_rows, IsSound}
 use Rattle.meta_order.proofs.Numbered.{Rows, most_of, last_alike}
 
 -- a row within the list ends before the list does
@@ -88,7 +88,7 @@ sound_push w counts ends v h long most low = record {
         get_or_at ends (sum v) [] 0 k e ∙ ap sum (sym (ap (row w (counts ++ v)) (sym e) ∙ row_new w (length ends) counts v h.size long))
 
 pub recorded_push : (w : ℕ) (counts ends v : List ℕ) → IsSound w counts ends → length v ≡ w
-    → recorded w (counts ++ v) (ends ++ sum v ∷ []) ≡ record (recorded w counts ends) { vectors = v ∷ (recorded w counts ends).vectors }
+    → metalog_of_rows w (counts ++ v) (ends ++ sum v ∷ []) ≡ record (metalog_of_rows w counts ends) { vectors = v ∷ (metalog_of_rows w counts ends).vectors }
 recorded_push w counts ends v h long =
     let n : ℕ = length ends - 1 in
     let e : length (ends ++ sum v ∷ []) - 1 ≡ suc n = omega (arith, length_push ends (sum v), h.some) in

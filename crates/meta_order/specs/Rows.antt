@@ -3,7 +3,7 @@
 use Rattle.std.specs.Prelude.{◌≡◌, ℕ, zero, suc, ◌-◌, ◌*◌, ◌^◌, ◌<◌, ◌≤◌, List, [], ◌∷◌, length, take, drop, sum, get_or}
 use Rattle.boki_model.specs.OrderLaws.{AreAtMost}
 use Rattle.boki_model.specs.Entries.{count_at}
-use Rattle.meta_order.specs.Recorded.{Recorded}
+use Rattle.meta_order.specs.MetalogState.{MetalogState}
 
 -- the vector of an entry
 abbrev pub row : ℕ → List ℕ → ℕ → List ℕ
@@ -14,8 +14,8 @@ abbrev pub vectors_to : (ℕ → List ℕ) → ℕ → List (List ℕ)
 vectors_to at zero = []
 vectors_to at (suc n) = at (suc n) ∷ vectors_to at n
 
-abbrev pub recorded : ℕ → List ℕ → List ℕ → Recorded
-recorded width counts ends = record { shards = width; vectors = vectors_to (row width counts) (length ends - 1) }
+abbrev pub metalog_of_rows : ℕ → List ℕ → List ℕ → MetalogState
+metalog_of_rows width counts ends = record { shards = width; vectors = vectors_to (row width counts) (length ends - 1) }
 
 pub record IsSound (width : ℕ) (counts ends : List ℕ) : Type 0 where
   pub some : 0 < length ends

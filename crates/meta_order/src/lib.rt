@@ -3,8 +3,6 @@
 
 pub mod laws;
 mod metalog;
-#[cfg(test)]
-mod tests;
 mod vectors;
 
 pub use metalog::Metalog;

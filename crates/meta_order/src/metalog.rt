@@ -2,9 +2,9 @@ ghost use Rattle.std.specs.Prelude.{◌≡◌, ℕ, ◌^◌, ◌≤◌, [], List
 ghost use Rattle.lb_base.specs.declared.value.Record.{Record};
 ghost use Rattle.boki_model.specs.Order.{last_vector, order, locate, seq_of};
 ghost use Rattle.boki_model.specs.OrderLaws.{AreAtMost};
-ghost use Rattle.meta_order.specs.Recorded.{AreOrdered, cut_of, after_cut, end_at};
+ghost use Rattle.meta_order.specs.MetalogState.{AreOrdered, cut_of, after_cut, end_at};
 
-use crate::vectors::{first_at_least, number_in, place_in, push_row, row_of};
+use crate::vectors::{first_at_least, location_in, push_row, row_of, seqnum_in};
 use boki_types::Cut;
 use lb_base::{Memory, Seqnum};
 use std::alloc::Global;
@@ -14,7 +14,7 @@ use std::marker::Model;
 /// the records between the last vector's counts and its own, shard by shard in ascending number. Shards, the records of a
 /// shard, entries and seqnums are numbered from 1.
 ///
-/// Places and seqnums are found by searches in sorted counts: their cost grows with the logarithm of the number of entries,
+/// Locations and seqnums are found by searches in sorted counts: their cost grows with the logarithm of the number of entries,
 /// and with the number of shards.
 #[derive(Drop)]
 pub struct Metalog {
@@ -24,12 +24,12 @@ pub struct Metalog {
 }
 
 impl Model for Metalog {
-    ghost use Rattle.meta_order.specs.Recorded.{Recorded};
-    ghost use Rattle.meta_order.specs.Rows.{recorded, IsSound};
+    ghost use Rattle.meta_order.specs.MetalogState.{MetalogState};
+    ghost use Rattle.meta_order.specs.Rows.{metalog_of_rows, IsSound};
 
-    ghost Value = { Recorded };
+    ghost Value = { MetalogState };
 
-    ghost view = { λ m. recorded m.shards m.counts.items m.ends.items };
+    ghost view = { λ m. metalog_of_rows m.shards m.counts.items m.ends.items };
 
     ghost invariant = { λ m. IsSound m.shards m.counts.items m.ends.items };
 }
@@ -109,7 +109,7 @@ impl Metalog {
         let width = self.shards as usize;
         let old = row_of(counts, width, entry - 1);
         let new = row_of(counts, width, entry);
-        place_in(old, new, seq.0 - ends[entry - 1])
+        location_in(old, new, seq.0 - ends[entry - 1])
     }
 
     /// The seqnum of a shard's record, or None where it isn't ordered or there is no such shard.
@@ -129,6 +129,6 @@ impl Metalog {
         }
         let old = row_of(counts, width, entry - 1);
         let new = row_of(counts, width, entry);
-        Some(Seqnum(number_in(old, new, column, local, ends[entry - 1])))
+        Some(Seqnum(seqnum_in(old, new, column, local, ends[entry - 1])))
     }
 }

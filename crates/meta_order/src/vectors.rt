@@ -1,5 +1,5 @@
 ghost use Rattle.std.specs.Prelude.{◌≡◌, ℕ, ◌+◌, ◌-◌, ◌*◌, ◌^◌, ◌<◌, ◌≤◌, ◌++◌, ◌∷◌, [], length, slice_index, OnOk, OnErr};
-ghost use Rattle.boki_model.specs.Entries.{place_within, number_within};
+ghost use Rattle.boki_model.specs.Entries.{location_in_entry, rank_in_entry};
 ghost use Rattle.meta_order.specs.Rows.{row};
 
 use lb_base::Memory;
@@ -35,12 +35,12 @@ pub fn first_at_least(counts: &[u64], width: usize, column: usize, rows: usize, 
     low
 }
 
-/// The place of an entry's record by its number in the entry, from 1: shard after shard.
-pub fn place_in(old: &[u64], new: &[u64], number: u64) -> Option<(u32, u64)>
+/// The shard and the number there of an entry's record by its number in the entry, from 1: shard after shard.
+pub fn location_in(old: &[u64], new: &[u64], number: u64) -> Option<(u32, u64)>
     requires long { length old.now ≡ length new.now }
     requires few { length new.now < 2 ^ 32 }
     requires grown { (k : ℕ) → slice_index old.now k ≤ slice_index new.now k }
-    ensures { result ≡ place_within (length new.now) 0 number old.now new.now }
+    ensures { result ≡ location_in_entry (length new.now) 0 number old.now new.now }
 {
     let mut rest = number;
     for shard in 0..new.len() {
@@ -54,13 +54,13 @@ pub fn place_in(old: &[u64], new: &[u64], number: u64) -> Option<(u32, u64)>
 }
 
 /// The seqnum of a shard's record that an entry adds, where `start` records are ordered before the entry.
-pub fn number_in(old: &[u64], new: &[u64], shard: usize, local: u64, start: u64) -> u64
+pub fn seqnum_in(old: &[u64], new: &[u64], shard: usize, local: u64, start: u64) -> u64
     requires long { length old.now ≡ length new.now }
     requires shard { shard < length new.now }
     requires grown { (k : ℕ) → slice_index old.now k ≤ slice_index new.now k }
     requires above { slice_index old.now shard ≤ local }
-    requires fits { start + number_within shard local old.now new.now < 2 ^ 64 }
-    ensures { result ≡ start + number_within shard local old.now new.now }
+    requires fits { start + rank_in_entry shard local old.now new.now < 2 ^ 64 }
+    ensures { result ≡ start + rank_in_entry shard local old.now new.now }
 {
     let mut before = start;
     for other in 0..shard {

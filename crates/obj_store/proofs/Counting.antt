@@ -7,7 +7,7 @@ use Rattle.std.proofs.lemmas.List.Sums.{sum_by-cons}
 use Rattle.std.proofs.lemmas.Map.{lookup-none}
 use Rattle.std.proofs.lemmas.Map.Entries.{none_past_head}
 use Rattle.std.proofs.lemmas.Map.Keys.{IsDistinct-tail}
-use Rattle.obj_store.specs.Kept.{KeptObject, blank, object_in, has_key}
+use Rattle.obj_store.specs.Kept.{KeptObject, empty_object, object_in, has_key}
 use Rattle.obj_store.proofs.Entries.{key_itself}
 
 -- the sum of a number for each key
@@ -54,7 +54,7 @@ pub sum_by_keys : (f : KeptObject → ℕ) (g : List ℕ → ℕ) (es : List (Li
 sum_by_keys f g [] distinct h = refl
 sum_by_keys f g (e ∷ es) distinct h =
     sum_by-cons f e.1 (values_of es)
-    ∙ (let here : f e.1 ≡ g e.0 = ap (λ b. f (unwrap_or (cond b (Some e.1) (lookup (bytes_eq e.0) es)) blank)) (sym (key_itself e.0))
+    ∙ (let here : f e.1 ≡ g e.0 = ap (λ b. f (unwrap_or (cond b (Some e.1) (lookup (bytes_eq e.0) es)) empty_object)) (sym (key_itself e.0))
     ∙ h e.0 (ap (λ b. is_some (cond b (Some e.1) (lookup (bytes_eq e.0) es))) (key_itself e.0)) in
     let rest = sum_by_keys f g es (IsDistinct-tail bytes_eq e.0 (keys_of es) distinct) later in omega arith)
   where
@@ -66,5 +66,5 @@ sum_by_keys f g (e ∷ es) distinct h =
             let none = lookup-none (bytes_eq k) es (none_past_head nat_list_eq_equiv k e es distinct is) in
             absurd (let n : true ≡ false = sym has ∙ ap is_some none in let z : ⊥ = cc in z)
         by false is =
-            ap (λ b. f (unwrap_or (cond b (Some e.1) (lookup (bytes_eq k) es)) blank)) (sym is)
+            ap (λ b. f (unwrap_or (cond b (Some e.1) (lookup (bytes_eq k) es)) empty_object)) (sym is)
             ∙ h k (ap (λ b. is_some (cond b (Some e.1) (lookup (bytes_eq k) es))) is ∙ has)

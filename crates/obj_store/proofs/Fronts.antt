@@ -5,13 +5,13 @@ use Rattle.std.proofs.lemmas.List.Sums.{sum_by-cons}
 use Rattle.indexmap.specs.IndexMap.{set_value_at}
 use Rattle.obj_store.specs.Ascending.{Ascend}
 use Rattle.obj_store.specs.Kept.{KeptObject}
-use Rattle.obj_store.specs.Steps.{AllAscend, settled_at, settled_all}
+use Rattle.obj_store.specs.Steps.{AllAscend, swept_object, swept_objects}
 
 -- the first ones have settled
 abbrev pub settled_front : ℕ → ℕ → List (List ℕ × KeptObject) → List (List ℕ × KeptObject)
 settled_front floor zero es = es
 settled_front floor (suc n) [] = []
-settled_front floor (suc n) (e ∷ es) = (e.0, settled_at floor e.1) ∷ settled_front floor n es
+settled_front floor (suc n) (e ∷ es) = (e.0, swept_object floor e.1) ∷ settled_front floor n es
 
 pub front_here : (floor n : ℕ) (es : List (List ℕ × KeptObject)) → slice_get (settled_front floor n es) n ≡ slice_get es n
 front_here floor zero es = refl
@@ -19,15 +19,15 @@ front_here floor (suc n) [] = refl
 front_here floor (suc n) (e ∷ es) = front_here floor n es
 
 pub front_more : (floor n : ℕ) (es : List (List ℕ × KeptObject)) (e : List ℕ × KeptObject) → slice_get es n ≡ Some e
-    → set_value_at (settled_front floor n es) n (settled_at floor e.1) ≡ settled_front floor (suc n) es
+    → set_value_at (settled_front floor n es) n (swept_object floor e.1) ≡ settled_front floor (suc n) es
 front_more floor zero [] e is = refl
-front_more floor zero (x ∷ xs) e is = ap (λ (y : List ℕ × KeptObject). let z : List (List ℕ × KeptObject) = (x.0, settled_at floor y.1) ∷ xs in z) (let s : e ≡ x = cc in s)
+front_more floor zero (x ∷ xs) e is = ap (λ (y : List ℕ × KeptObject). let z : List (List ℕ × KeptObject) = (x.0, swept_object floor y.1) ∷ xs in z) (let s : e ≡ x = cc in s)
 front_more floor (suc n) [] e is = refl
-front_more floor (suc n) (x ∷ xs) e is = ap (λ (l : List (List ℕ × KeptObject)). let z : List (List ℕ × KeptObject) = (x.0, settled_at floor x.1) ∷ l in z) (front_more floor n xs e is)
+front_more floor (suc n) (x ∷ xs) e is = ap (λ (l : List (List ℕ × KeptObject)). let z : List (List ℕ × KeptObject) = (x.0, swept_object floor x.1) ∷ l in z) (front_more floor n xs e is)
 
-pub front_end : (floor : ℕ) (es : List (List ℕ × KeptObject)) → settled_front floor (length es) es ≡ settled_all floor es
+pub front_end : (floor : ℕ) (es : List (List ℕ × KeptObject)) → settled_front floor (length es) es ≡ swept_objects floor es
 front_end floor [] = refl
-front_end floor (e ∷ es) = ap (λ (l : List (List ℕ × KeptObject)). let z : List (List ℕ × KeptObject) = (e.0, settled_at floor e.1) ∷ l in z) (front_end floor es)
+front_end floor (e ∷ es) = ap (λ (l : List (List ℕ × KeptObject)). let z : List (List ℕ × KeptObject) = (e.0, swept_object floor e.1) ∷ l in z) (front_end floor es)
 
 pub some_entry : (es : List (List ℕ × KeptObject)) (i : ℕ) → i < length es → (e : List ℕ × KeptObject) × (slice_get es i ≡ Some e)
 some_entry [] i lt = absurd (let h : ⊥ = omega arith in h)
@@ -54,16 +54,16 @@ sum_end f (e ∷ es) = omega (arith, sum_end f es, sum_by-cons f e.1 (values_of 
 -- one turn of such a loop
 
 pub settled_step : (floor i : ℕ) (es ls fs : List (List ℕ × KeptObject)) → AllAscend es → i < length es → ls ≡ settled_front floor i es
-    → ((e : List ℕ × KeptObject) → slice_get ls i ≡ Some e → Ascend e.1.versions → fs ≡ set_value_at ls i (settled_at floor e.1))
+    → ((e : List ℕ × KeptObject) → slice_get ls i ≡ Some e → Ascend e.1.versions → fs ≡ set_value_at ls i (swept_object floor e.1))
     → fs ≡ settled_front floor (i + 1) es
 settled_step floor i es ls fs up lt is set =
     let there = some_entry es i lt in
     set there.0 (ap (λ (l : List (List ℕ × KeptObject)). slice_get l i) is ∙ front_here floor i es ∙ there.1) (up i there.0 there.1)
-    ∙ ap (λ (l : List (List ℕ × KeptObject)). set_value_at l i (settled_at floor there.0.1)) is
+    ∙ ap (λ (l : List (List ℕ × KeptObject)). set_value_at l i (swept_object floor there.0.1)) is
     ∙ front_more floor i es there.0 there.1
     ∙ ap (λ (n : ℕ). settled_front floor n es) (let e : suc i ≡ i + 1 = omega arith in e)
 
-pub settled_to_end : (floor i : ℕ) (es ls : List (List ℕ × KeptObject)) → i ≡ length es → ls ≡ settled_front floor i es → ls ≡ settled_all floor es
+pub settled_to_end : (floor i : ℕ) (es ls : List (List ℕ × KeptObject)) → i ≡ length es → ls ≡ settled_front floor i es → ls ≡ swept_objects floor es
 settled_to_end floor i es ls end is = is ∙ ap (λ (n : ℕ). settled_front floor n es) end ∙ front_end floor es
 
 pub sum_step : (f : KeptObject → ℕ) (i : ℕ) (es : List (List ℕ × KeptObject)) (old more new : ℕ) → i < length es → front_sum f (i + 1) es < 2 ^ 64

@@ -3,9 +3,9 @@ use Rattle.std.proofs.Common.{◌≡◌, ℕ, zero, suc, ◌+◌, ◌-◌, ◌<�
 use Rattle.std.specs.List.Sorted.{IsPartitionPoint, IsPartitionedBy}
 use Rattle.std.proofs.lemmas.List.Sums.{prefix_len_is}
 use Rattle.std.proofs.lemmas.Bool.Decides.{nat_tests}
-use Rattle.boki_model.specs.Writes.{Write, is_below, later, last_below}
+use Rattle.boki_model.specs.Writes.{Write, is_below, later_write, last_write_below}
 use Rattle.obj_store.specs.Ascending.{AllAbove, Ascend, before_count, has_at, not_below}
-use Rattle.obj_store.specs.Kept.{put_in}
+use Rattle.obj_store.specs.Kept.{insert_write}
 use Rattle.obj_store.proofs.Positions.{below_trans}
 
 all_above_at : (w : Write) (ws : List Write) → AllAbove w ws → (i : ℕ) (d : Write) → i < length ws → is_below w.first w.second (get_or ws i d).first (get_or ws i d).second ≡ true
@@ -73,7 +73,7 @@ pub before_is : (n : ℕ) (ws : List Write) → 0 < n → slice_get ws (n - 1) �
 before_is zero ws lt = absurd (let h : ⊥ = omega arith in h)
 before_is (suc n) ws lt = ap (slice_get ws) (let e : suc n - 1 ≡ n = omega arith in e)
 
-last_above : (w : Write) (ws : List Write) → AllAbove w ws → (n : ℕ) → 0 < n → n ≤ length ws → later w (before n ws) ≡ before (suc n) (w ∷ ws)
+last_above : (w : Write) (ws : List Write) → AllAbove w ws → (n : ℕ) → 0 < n → n ≤ length ws → later_write w (before n ws) ≡ before (suc n) (w ∷ ws)
 last_above w ws up zero lt le = absurd (let h : ⊥ = omega arith in h)
 last_above w [] up (suc n) lt le = absurd (let h : ⊥ = omega arith in h)
 last_above w (v ∷ vs) up (suc zero) lt le = ap (λ b. cond b (Some v) (Some w)) up.0
@@ -87,20 +87,20 @@ count_bound c k (w ∷ ws) = at (is_below w.first w.second c k) (count_bound c k
     at true ih = omega arith
     at false ih = omega arith
 
-pub last_is : (c k : ℕ) (ws : List Write) → Ascend ws → last_below c k ws ≡ before (before_count c k ws) ws
+pub last_is : (c k : ℕ) (ws : List Write) → Ascend ws → last_write_below c k ws ≡ before (before_count c k ws) ws
 last_is c k [] up = refl
 last_is c k (w ∷ ws) up = at (is_below w.first w.second c k) refl (last_is c k ws up.1)
   where
-    some : (n : ℕ) → n ≡ before_count c k ws → last_below c k ws ≡ before n ws → later w (last_below c k ws) ≡ before (suc n) (w ∷ ws)
-    some zero e ih = ap (later w) ih
-    some (suc n) e ih = ap (later w) ih ∙ last_above w ws up.0 (suc n) (omega arith) (omega (arith, count_bound c k ws))
+    some : (n : ℕ) → n ≡ before_count c k ws → last_write_below c k ws ≡ before n ws → later_write w (last_write_below c k ws) ≡ before (suc n) (w ∷ ws)
+    some zero e ih = ap (later_write w) ih
+    some (suc n) e ih = ap (later_write w) ih ∙ last_above w ws up.0 (suc n) (omega arith) (omega (arith, count_bound c k ws))
 
-    none : (n : ℕ) → before_count c k ws ≡ n → n ≡ 0 → last_below c k ws ≡ before n ws → last_below c k ws ≡ None
+    none : (n : ℕ) → before_count c k ws ≡ n → n ≡ 0 → last_write_below c k ws ≡ before n ws → last_write_below c k ws ≡ None
     none zero e z ih = ih
     none (suc n) e z ih = absurd (let h : ⊥ = omega arith in h)
 
-    at : (b : Bool) → is_below w.first w.second c k ≡ b → last_below c k ws ≡ before (before_count c k ws) ws
-        → cond b (later w (last_below c k ws)) (last_below c k ws) ≡ before (cond b (1 + before_count c k ws) 0) (w ∷ ws)
+    at : (b : Bool) → is_below w.first w.second c k ≡ b → last_write_below c k ws ≡ before (before_count c k ws) ws
+        → cond b (later_write w (last_write_below c k ws)) (last_write_below c k ws) ≡ before (cond b (1 + before_count c k ws) 0) (w ∷ ws)
     at true e ih = some (before_count c k ws) refl ih ∙ ap (λ n. before n (w ∷ ws)) (let n : suc (before_count c k ws) ≡ 1 + before_count c k ws = omega arith in n)
     at false e ih = none (before_count c k ws) refl (none_before c k w ws up.0 e) ih
 
@@ -122,11 +122,11 @@ count_at_is c (w ∷ ws) up = at (is_below w.first w.second c 0) (is_below w.fir
     at false false true h g e ih = absurd (let n : ⊥ = grind (arith, nat_tests) in n)
     at false false false h g e ih = omega (arith, none_before c 0 w ws up.0 h, none_before (suc c) 0 w ws up.0 g)
 
-pub insert_is : (w : Write) (ws : List Write) → insert ws (before_count w.first w.second ws) w ≡ put_in w ws
+pub insert_is : (w : Write) (ws : List Write) → insert ws (before_count w.first w.second ws) w ≡ insert_write w ws
 insert_is w [] = refl
 insert_is w (v ∷ vs) = at (is_below v.first v.second w.first w.second) (insert_is w vs)
   where
-    at : (b : Bool) → insert vs (before_count w.first w.second vs) w ≡ put_in w vs → insert (v ∷ vs) (cond b (1 + before_count w.first w.second vs) 0) w ≡ cond b (v ∷ put_in w vs) (w ∷ v ∷ vs)
+    at : (b : Bool) → insert vs (before_count w.first w.second vs) w ≡ insert_write w vs → insert (v ∷ vs) (cond b (1 + before_count w.first w.second vs) 0) w ≡ cond b (v ∷ insert_write w vs) (w ∷ v ∷ vs)
     at true ih = ap (λ n. insert (v ∷ vs) n w) (let n : 1 + before_count w.first w.second vs ≡ suc (before_count w.first w.second vs) = omega arith in n) ∙ ap (λ l. v ∷ l) ih
     at false ih = refl
 

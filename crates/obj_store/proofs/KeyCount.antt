@@ -13,8 +13,8 @@ use Rattle.boki_types.specs.declared.body.Body.{Body}
 use Rattle.boki_types.specs.declared.store.Name.{Name}
 use Rattle.boki_model.specs.Live.{Live}
 use Rattle.boki_model.specs.Maps.{key_order, get, put}
-use Rattle.boki_model.specs.Writes.{Stored, Version, Store, Write, is_below, later, last_below, logged_write, logged_writes, version_writes, write_at, with, if_key, here_or_named, initial_keys, logged_key, logged_keys_below, version_keys_below, keys_below, held}
-use Rattle.obj_store.specs.Kept.{Kept, KeptObject, has_key, last_of, base_count}
+use Rattle.boki_model.specs.Writes.{NamedValue, Version, Store, Write, is_below, later_write, last_write_below, logged_write, logged_writes, version_writes, write_at, prepend_some, logged_write_of, here_or_named, initial_keys, logged_key, logged_keys_below, version_keys_below, keys_below, held_count}
+use Rattle.obj_store.specs.Kept.{StoreState, KeptObject, has_key, last_of_two, base_count}
 use Rattle.obj_store.specs.StandsFor.{StandsFor, base_of, initial_write, HasValue, HaveValues}
 use Rattle.obj_store.proofs.Entries.{same_key}
 use Rattle.obj_store.proofs.Counting.{key_sum, key_sum_same, key_sum_zero, key_sum_plus, one_at, one_there}
@@ -102,7 +102,7 @@ module _ (es : List (List ℕ × KeptObject)) (distinct : IsDistinct bytes_eq (k
 
 -- which keys are there
 
-pub some_later : (w : Write) (o : Option Write) → is_some (later w o) ≡ true
+pub some_later : (w : Write) (o : Option Write) → is_some (later_write w o) ≡ true
 some_later w None = refl
 some_later w (Some v) = by (is_below w.first w.second v.first v.second)
   where
@@ -110,7 +110,7 @@ some_later w (Some v) = by (is_below w.first w.second v.first v.second)
     by true = refl
     by false = refl
 
-pub some_last : (a b : Option Write) → is_some (last_of a b) ≡ (is_some a || is_some b)
+pub some_last : (a b : Option Write) → is_some (last_of_two a b) ≡ (is_some a || is_some b)
 some_last None b = refl
 some_last (Some w) b = some_later w b
 
@@ -125,18 +125,18 @@ initial_present k (x ∷ xs) = present_put k x.0 _ (initial_keys xs) ∙ by (byt
 pub initial_some : (k : List ℕ) (objects : Keys) → is_some (initial_write k objects) ≡ is_some (get k objects)
 initial_some k objects = by (get k objects)
   where
-    by : (o : Option Value) → is_some (last_below 1 0 (with (option_map (write_at 0 0) o) [])) ≡ is_some o
+    by : (o : Option Value) → is_some (last_write_below 1 0 (prepend_some (option_map (write_at 0 0) o) [])) ≡ is_some o
     by None = refl
     by (Some v) = ap (λ b. is_some (cond b (Some (write_at 0 0 v)) None)) (let t : is_below 0 0 1 0 ≡ true = grind (arith, nat_tests) in t)
 
-pub logged_present : (k : List ℕ) (n : ℕ) (named : List Stored) (ks : Keys) (xs : List (Live Body)) → HaveValues n named xs
-    → present k (logged_keys_below n xs ks) ≡ (is_some (last_below n 0 (logged_writes k named xs)) || present k ks)
+pub logged_present : (k : List ℕ) (n : ℕ) (named : List NamedValue) (ks : Keys) (xs : List (Live Body)) → HaveValues n named xs
+    → present k (logged_keys_below n xs ks) ≡ (is_some (last_write_below n 0 (logged_writes k named xs)) || present k ks)
 logged_present k n named ks [] h = refl
 logged_present k n named ks (x ∷ xs) h = by (ltb x.seq n) refl (logged_write x.holds) h.0 (logged_present k n named ks xs h.1)
   where
     by : (b : Bool) → ltb x.seq n ≡ b → (w : Option (List ℕ × (Name × Option Value))) → (x.seq < n → HasValue named w)
-        → present k (logged_keys_below n xs ks) ≡ (is_some (last_below n 0 (logged_writes k named xs)) || present k ks)
-        → present k (logged_key b w (logged_keys_below n xs ks)) ≡ (is_some (last_below n 0 (with (if_key k x.seq named w) (logged_writes k named xs))) || present k ks)
+        → present k (logged_keys_below n xs ks) ≡ (is_some (last_write_below n 0 (logged_writes k named xs)) || present k ks)
+        → present k (logged_key b w (logged_keys_below n xs ks)) ≡ (is_some (last_write_below n 0 (prepend_some (logged_write_of k x.seq named w) (logged_writes k named xs))) || present k ks)
     by true e None has ih = ih
     by false e None has ih = ih
     by false e (Some w) has ih = ih ∙ ap (λ (o : Option Write). is_some o || present k ks) (sym (skipped k named n x.seq (Some w) (logged_writes k named xs) e))
@@ -148,39 +148,39 @@ logged_present k n named ks (x ∷ xs) h = by (ltb x.seq n) refl (logged_write x
         lt = grind (arith, nat_tests)
 
         at : (b : Bool) (o : Option Value) → here_or_named w.1.1 w.1.0 named ≡ o
-            → (b || present k (logged_keys_below n xs ks)) ≡ (is_some (last_below n 0 (with (cond b (option_map (write_at x.seq 0) o) None) (logged_writes k named xs))) || present k ks)
+            → (b || present k (logged_keys_below n xs ks)) ≡ (is_some (last_write_below n 0 (prepend_some (cond b (option_map (write_at x.seq 0) o) None) (logged_writes k named xs))) || present k ks)
         at false o is = ih
         at true None is = absurd (has lt is)
-        at true (Some v) is = sym (ap (λ b. is_some (cond b (later (write_at x.seq 0 v) (last_below n 0 (logged_writes k named xs))) (last_below n 0 (logged_writes k named xs))) || present k ks) (let t : is_below x.seq 0 n 0 ≡ true = grind (arith, nat_tests) in t)
-            ∙ ap (λ b. b || present k ks) (some_later (write_at x.seq 0 v) (last_below n 0 (logged_writes k named xs))))
+        at true (Some v) is = sym (ap (λ b. is_some (cond b (later_write (write_at x.seq 0 v) (last_write_below n 0 (logged_writes k named xs))) (last_write_below n 0 (logged_writes k named xs))) || present k ks) (let t : is_below x.seq 0 n 0 ≡ true = grind (arith, nat_tests) in t)
+            ∙ ap (λ b. b || present k ks) (some_later (write_at x.seq 0 v) (last_write_below n 0 (logged_writes k named xs))))
 
-version_present : (k : List ℕ) (n : ℕ) (ks : Keys) (vs : List Version) → present k (version_keys_below n vs ks) ≡ (is_some (last_below n 0 (version_writes k vs)) || present k ks)
+version_present : (k : List ℕ) (n : ℕ) (ks : Keys) (vs : List Version) → present k (version_keys_below n vs ks) ≡ (is_some (last_write_below n 0 (version_writes k vs)) || present k ks)
 version_present k n ks [] = refl
 version_present k n ks (v ∷ vs) = by (ltb v.cursor n) refl (version_present k n ks vs)
   where
-    by : (b : Bool) → ltb v.cursor n ≡ b → present k (version_keys_below n vs ks) ≡ (is_some (last_below n 0 (version_writes k vs)) || present k ks)
-        → present k (cond b (put v.key Nothing (version_keys_below n vs ks)) (version_keys_below n vs ks)) ≡ (is_some (last_below n 0 (version_writes k (v ∷ vs))) || present k ks)
+    by : (b : Bool) → ltb v.cursor n ≡ b → present k (version_keys_below n vs ks) ≡ (is_some (last_write_below n 0 (version_writes k vs)) || present k ks)
+        → present k (cond b (put v.key Nothing (version_keys_below n vs ks)) (version_keys_below n vs ks)) ≡ (is_some (last_write_below n 0 (version_writes k (v ∷ vs))) || present k ks)
     by true e ih = present_put k v.key Nothing (version_keys_below n vs ks) ∙ at (bytes_eq k v.key)
       where
-        at : (b : Bool) → (b || present k (version_keys_below n vs ks)) ≡ (is_some (last_below n 0 (cond b (write_at v.cursor v.k v.value ∷ version_writes k vs) (version_writes k vs))) || present k ks)
+        at : (b : Bool) → (b || present k (version_keys_below n vs ks)) ≡ (is_some (last_write_below n 0 (cond b (write_at v.cursor v.number v.value ∷ version_writes k vs) (version_writes k vs))) || present k ks)
         at false = ih
-        at true = sym (ap (λ b. is_some (cond b (later (write_at v.cursor v.k v.value) (last_below n 0 (version_writes k vs))) (last_below n 0 (version_writes k vs))) || present k ks) (let t : is_below v.cursor v.k n 0 ≡ true = grind (arith, nat_tests) in t)
-            ∙ ap (λ b. b || present k ks) (some_later (write_at v.cursor v.k v.value) (last_below n 0 (version_writes k vs))))
+        at true = sym (ap (λ b. is_some (cond b (later_write (write_at v.cursor v.number v.value) (last_write_below n 0 (version_writes k vs))) (last_write_below n 0 (version_writes k vs))) || present k ks) (let t : is_below v.cursor v.number n 0 ≡ true = grind (arith, nat_tests) in t)
+            ∙ ap (λ b. b || present k ks) (some_later (write_at v.cursor v.number v.value) (last_write_below n 0 (version_writes k vs))))
     by false e ih = ih ∙ sym (at (bytes_eq k v.key))
       where
-        at : (b : Bool) → (is_some (last_below n 0 (cond b (write_at v.cursor v.k v.value ∷ version_writes k vs) (version_writes k vs))) || present k ks) ≡ (is_some (last_below n 0 (version_writes k vs)) || present k ks)
+        at : (b : Bool) → (is_some (last_write_below n 0 (cond b (write_at v.cursor v.number v.value ∷ version_writes k vs) (version_writes k vs))) || present k ks) ≡ (is_some (last_write_below n 0 (version_writes k vs)) || present k ks)
         at false = refl
-        at true = ap (λ b. is_some (cond b (later (write_at v.cursor v.k v.value) (last_below n 0 (version_writes k vs))) (last_below n 0 (version_writes k vs))) || present k ks) (let t : is_below v.cursor v.k n 0 ≡ false = grind (arith, nat_tests) in t)
+        at true = ap (λ b. is_some (cond b (later_write (write_at v.cursor v.number v.value) (last_write_below n 0 (version_writes k vs))) (last_write_below n 0 (version_writes k vs))) || present k ks) (let t : is_below v.cursor v.number n 0 ≡ false = grind (arith, nat_tests) in t)
 
-module _ (kept : Kept) (m : Store) (records : List (Live Body)) (stands : StandsFor kept m records) where
+module _ (kept : StoreState) (m : Store) (records : List (Live Body)) (stands : StandsFor kept m records) where
   base_present : (k : List ℕ) → present k (keys_below m.floor m records) ≡ is_some (base_of k m records)
   base_present k =
       version_present k m.floor (logged_keys_below m.floor records (initial_keys m.initial)) m.versions
-      ∙ ap (λ b. is_some (last_below m.floor 0 (version_writes k m.versions)) || b) (logged_present k m.floor m.named (initial_keys m.initial) records stands.valued
-      ∙ ap (λ b. is_some (last_below m.floor 0 (logged_writes k m.named records)) || b) (initial_present k m.initial ∙ sym (initial_some k m.initial)))
-      ∙ swap (is_some (last_below m.floor 0 (version_writes k m.versions))) (is_some (last_below m.floor 0 (logged_writes k m.named records))) (is_some (initial_write k m.initial))
-      ∙ sym (some_last (last_below m.floor 0 (logged_writes k m.named records)) (last_of (last_below m.floor 0 (version_writes k m.versions)) (initial_write k m.initial))
-      ∙ ap (λ b. is_some (last_below m.floor 0 (logged_writes k m.named records)) || b) (some_last (last_below m.floor 0 (version_writes k m.versions)) (initial_write k m.initial)))
+      ∙ ap (λ b. is_some (last_write_below m.floor 0 (version_writes k m.versions)) || b) (logged_present k m.floor m.named (initial_keys m.initial) records stands.valued
+      ∙ ap (λ b. is_some (last_write_below m.floor 0 (logged_writes k m.named records)) || b) (initial_present k m.initial ∙ sym (initial_some k m.initial)))
+      ∙ swap (is_some (last_write_below m.floor 0 (version_writes k m.versions))) (is_some (last_write_below m.floor 0 (logged_writes k m.named records))) (is_some (initial_write k m.initial))
+      ∙ sym (some_last (last_write_below m.floor 0 (logged_writes k m.named records)) (last_of_two (last_write_below m.floor 0 (version_writes k m.versions)) (initial_write k m.initial))
+      ∙ ap (λ b. is_some (last_write_below m.floor 0 (logged_writes k m.named records)) || b) (some_last (last_write_below m.floor 0 (version_writes k m.versions)) (initial_write k m.initial)))
     where
       swap : (a b c : Bool) → (a || (b || c)) ≡ (b || (a || c))
       swap true true c = refl
@@ -193,7 +193,7 @@ module _ (kept : Kept) (m : Store) (records : List (Live Body)) (stands : Stands
       let b : is_some (base_of k m records) ≡ false = ap (λ (o : KeptObject). is_some o.base) e in
       let n : true ≡ false = sym h ∙ base_present k ∙ b in let z : ⊥ = cc in z)
 
-  pub held_is : kept.held ≡ held m records
+  pub held_is : kept.held ≡ held_count m records
   held_is =
       let keys = (counts_all kept.objects stands.sound.keys m.floor m records).1 base_entry in
       let bases = key_sum_same (λ k. cond (present k (keys_below m.floor m records)) 1 0) (λ k. base_count (base_of k m records)) kept.objects

@@ -19,10 +19,10 @@ use Rattle.lb_base.specs.declared.value.Value.TheVariants.{Nothing}
 use Rattle.boki_types.specs.declared.body.Body.{Body}
 use Rattle.boki_model.specs.Live.{Live}
 use Rattle.boki_model.specs.Maps.{key_order, get}
-use Rattle.boki_model.specs.Writes.{Version, Store, Write, is_below, later, last_below, logged_writes, version_writes, write_at, initial_keys, logged_keys_below}
-use Rattle.obj_store.specs.Kept.{Kept, KeptObject, blank, object_in, last_of, count_of, base_count}
+use Rattle.boki_model.specs.Writes.{Version, Store, Write, is_below, later_write, last_write_below, logged_writes, version_writes, write_at, initial_keys, logged_keys_below}
+use Rattle.obj_store.specs.Kept.{StoreState, KeptObject, empty_object, object_in, last_of_two, count_of, base_count}
 use Rattle.obj_store.specs.Keys.{version_keys, keys_in, with_key, with_keys}
-use Rattle.obj_store.specs.StandsFor.{StandsFor, standing, kept_of, base_of, initial_write}
+use Rattle.obj_store.specs.StandsFor.{StandsFor, versions_from, kept_of, base_of, initial_write}
 use Rattle.obj_store.proofs.Held.{length_in_order}
 use Rattle.obj_store.proofs.KeyCount.{counts_logged, counts_initial, present, present_put, logged_present, initial_present, initial_some, some_last, some_later}
 
@@ -75,9 +75,9 @@ found_all q (e ∷ es) ks distinct =
   where
     by : (b : Bool) → bytes_eq q e.0 ≡ b
         → cond (is_kept (object_in q es)) (Some tt) (cond (is_kept e.1 && b) (Some tt) (find key_order q ks))
-        ≡ cond (is_kept (unwrap_or (cond b (Some e.1) (lookup (bytes_eq q) es)) blank)) (Some tt) (find key_order q ks)
+        ≡ cond (is_kept (unwrap_or (cond b (Some e.1) (lookup (bytes_eq q) es)) empty_object)) (Some tt) (find key_order q ks)
     by true is =
-        ap (λ (o : Option KeptObject). cond (is_kept (unwrap_or o blank)) (Some tt) (cond (is_kept e.1 && true) (Some tt) (find key_order q ks))) (lookup-none (bytes_eq q) es (none_past_head nat_list_eq_equiv q e es distinct is))
+        ap (λ (o : Option KeptObject). cond (is_kept (unwrap_or o empty_object)) (Some tt) (cond (is_kept e.1 && true) (Some tt) (find key_order q ks))) (lookup-none (bytes_eq q) es (none_past_head nat_list_eq_equiv q e es distinct is))
         ∙ at (is_kept e.1)
       where
         at : (b : Bool) → cond (b && true) (Some tt) (find key_order q ks) ≡ cond b (Some tt) (find key_order q ks)
@@ -125,7 +125,7 @@ known_present q [] ks = refl
 known_present q (v ∷ vs) ks = present_put q v.key Nothing (version_keys vs ks) ∙ by (bytes_eq q v.key) (known_present q vs ks)
   where
     by : (b : Bool) → present q (version_keys vs ks) ≡ (not (eqb (length (version_writes q vs)) 0) || present q ks)
-        → (b || present q (version_keys vs ks)) ≡ (not (eqb (length (cond b (write_at v.cursor v.k v.value ∷ version_writes q vs) (version_writes q vs))) 0) || present q ks)
+        → (b || present q (version_keys vs ks)) ≡ (not (eqb (length (cond b (write_at v.cursor v.number v.value ∷ version_writes q vs) (version_writes q vs))) 0) || present q ks)
     by true ih = sym (ap (λ b. b || present q ks) (one_is_kept (length (version_writes q vs))))
     by false ih = ih
 
@@ -133,27 +133,27 @@ or_true : (b : Bool) → true ≡ (b || true)
 or_true true = refl
 or_true false = refl
 
-any_splits : (f : ℕ) (q : List ℕ) (vs : List Version) → not (eqb (length (version_writes q vs)) 0) ≡ (is_some (last_below f 0 (version_writes q vs)) || not (eqb (length (version_writes q (standing f vs))) 0))
+any_splits : (f : ℕ) (q : List ℕ) (vs : List Version) → not (eqb (length (version_writes q vs)) 0) ≡ (is_some (last_write_below f 0 (version_writes q vs)) || not (eqb (length (version_writes q (versions_from f vs))) 0))
 any_splits f q [] = refl
 any_splits f q (v ∷ vs) = by (leb f v.cursor) (bytes_eq q v.key) refl refl (any_splits f q vs)
   where
     by : (p b : Bool) → leb f v.cursor ≡ p → bytes_eq q v.key ≡ b
-        → not (eqb (length (version_writes q vs)) 0) ≡ (is_some (last_below f 0 (version_writes q vs)) || not (eqb (length (version_writes q (standing f vs))) 0))
-        → not (eqb (length (cond b (write_at v.cursor v.k v.value ∷ version_writes q vs) (version_writes q vs))) 0)
-        ≡ (is_some (last_below f 0 (cond b (write_at v.cursor v.k v.value ∷ version_writes q vs) (version_writes q vs))) || not (eqb (length (version_writes q (cond p (v ∷ standing f vs) (standing f vs)))) 0))
+        → not (eqb (length (version_writes q vs)) 0) ≡ (is_some (last_write_below f 0 (version_writes q vs)) || not (eqb (length (version_writes q (versions_from f vs))) 0))
+        → not (eqb (length (cond b (write_at v.cursor v.number v.value ∷ version_writes q vs) (version_writes q vs))) 0)
+        ≡ (is_some (last_write_below f 0 (cond b (write_at v.cursor v.number v.value ∷ version_writes q vs) (version_writes q vs))) || not (eqb (length (version_writes q (cond p (v ∷ versions_from f vs) (versions_from f vs)))) 0))
     by false false e h ih = ih
-    by true false e h ih = ih ∙ sym (ap (λ x. is_some (last_below f 0 (version_writes q vs)) || not (eqb (length (cond x (write_at v.cursor v.k v.value ∷ version_writes q (standing f vs)) (version_writes q (standing f vs)))) 0)) h)
+    by true false e h ih = ih ∙ sym (ap (λ x. is_some (last_write_below f 0 (version_writes q vs)) || not (eqb (length (cond x (write_at v.cursor v.number v.value ∷ version_writes q (versions_from f vs)) (version_writes q (versions_from f vs)))) 0)) h)
     by true true e h ih =
         one_is_kept (length (version_writes q vs))
-        ∙ or_true (is_some (last_below f 0 (write_at v.cursor v.k v.value ∷ version_writes q vs)))
-        ∙ ap (λ b. is_some (last_below f 0 (write_at v.cursor v.k v.value ∷ version_writes q vs)) || b) (sym (
-        ap (λ x. not (eqb (length (cond x (write_at v.cursor v.k v.value ∷ version_writes q (standing f vs)) (version_writes q (standing f vs)))) 0)) h
-        ∙ one_is_kept (length (version_writes q (standing f vs)))))
+        ∙ or_true (is_some (last_write_below f 0 (write_at v.cursor v.number v.value ∷ version_writes q vs)))
+        ∙ ap (λ b. is_some (last_write_below f 0 (write_at v.cursor v.number v.value ∷ version_writes q vs)) || b) (sym (
+        ap (λ x. not (eqb (length (cond x (write_at v.cursor v.number v.value ∷ version_writes q (versions_from f vs)) (version_writes q (versions_from f vs)))) 0)) h
+        ∙ one_is_kept (length (version_writes q (versions_from f vs)))))
     by false true e h ih =
         one_is_kept (length (version_writes q vs))
-        ∙ ap (λ b. b || not (eqb (length (version_writes q (standing f vs))) 0)) (sym (
-        ap (λ x. is_some (cond x (later (write_at v.cursor v.k v.value) (last_below f 0 (version_writes q vs))) (last_below f 0 (version_writes q vs)))) (let t : is_below v.cursor v.k f 0 ≡ true = grind (arith, nat_tests) in t)
-        ∙ some_later (write_at v.cursor v.k v.value) (last_below f 0 (version_writes q vs))))
+        ∙ ap (λ b. b || not (eqb (length (version_writes q (versions_from f vs))) 0)) (sym (
+        ap (λ x. is_some (cond x (later_write (write_at v.cursor v.number v.value) (last_write_below f 0 (version_writes q vs))) (last_write_below f 0 (version_writes q vs)))) (let t : is_below v.cursor v.number f 0 ≡ true = grind (arith, nat_tests) in t)
+        ∙ some_later (write_at v.cursor v.number v.value) (last_write_below f 0 (version_writes q vs))))
 
 kept_any : (o : KeptObject) → not (eqb (count_of o) 0) ≡ (is_some o.base || not (eqb (length o.versions) 0))
 kept_any o = by o.base (length o.versions)
@@ -162,7 +162,7 @@ kept_any o = by o.base (length o.versions)
     by None n = ap (λ (x : ℕ). not (eqb x 0)) (let t : 0 + n ≡ n = omega arith in t)
     by (Some w) n = ap (λ (x : ℕ). not (eqb x 0)) (let t : 1 + n ≡ suc n = omega arith in t) ∙ one_is_kept n
 
-module _ (kept : Kept) (m : Store) (records : List (Live Body)) (stands : StandsFor kept m records) where
+module _ (kept : StoreState) (m : Store) (records : List (Live Body)) (stands : StandsFor kept m records) where
   known_sorted : (vs : List Version) → T (is_sorted key_order (version_keys vs (logged_keys_below m.floor records (initial_keys m.initial))))
   known_sorted [] = (counts_logged kept.objects stands.sound.keys m.floor records (initial_keys m.initial) (counts_initial kept.objects stands.sound.keys m.initial)).0
   known_sorted (v ∷ vs) = is_sorted-put key_order nat_list_cmp_total v.key Nothing (version_keys vs (logged_keys_below m.floor records (initial_keys m.initial))) (known_sorted vs)
@@ -170,15 +170,15 @@ module _ (kept : Kept) (m : Store) (records : List (Live Body)) (stands : Stands
   kept_is_known : (q : List ℕ) → not (eqb (count_of (object_in q kept.objects)) 0) ≡ present q (version_keys m.versions (logged_keys_below m.floor records (initial_keys m.initial)))
   kept_is_known q =
       ap (λ (o : KeptObject). not (eqb (count_of o) 0)) (stands.objects q) ∙ kept_any (kept_of q m records)
-      ∙ ap (λ (n : ℕ). is_some (base_of q m records) || not (eqb n 0)) (length_in_order (version_writes q (standing m.floor m.versions)))
-      ∙ ap (λ b. b || not (eqb (length (version_writes q (standing m.floor m.versions))) 0)) (some_last (last_below m.floor 0 (logged_writes q m.named records)) (last_of (last_below m.floor 0 (version_writes q m.versions)) (initial_write q m.initial))
-      ∙ ap (λ b. is_some (last_below m.floor 0 (logged_writes q m.named records)) || b) (some_last (last_below m.floor 0 (version_writes q m.versions)) (initial_write q m.initial)))
-      ∙ swap (is_some (last_below m.floor 0 (logged_writes q m.named records))) (is_some (last_below m.floor 0 (version_writes q m.versions))) (is_some (initial_write q m.initial)) (not (eqb (length (version_writes q (standing m.floor m.versions))) 0))
+      ∙ ap (λ (n : ℕ). is_some (base_of q m records) || not (eqb n 0)) (length_in_order (version_writes q (versions_from m.floor m.versions)))
+      ∙ ap (λ b. b || not (eqb (length (version_writes q (versions_from m.floor m.versions))) 0)) (some_last (last_write_below m.floor 0 (logged_writes q m.named records)) (last_of_two (last_write_below m.floor 0 (version_writes q m.versions)) (initial_write q m.initial))
+      ∙ ap (λ b. is_some (last_write_below m.floor 0 (logged_writes q m.named records)) || b) (some_last (last_write_below m.floor 0 (version_writes q m.versions)) (initial_write q m.initial)))
+      ∙ swap (is_some (last_write_below m.floor 0 (logged_writes q m.named records))) (is_some (last_write_below m.floor 0 (version_writes q m.versions))) (is_some (initial_write q m.initial)) (not (eqb (length (version_writes q (versions_from m.floor m.versions))) 0))
       ∙ sym (known_present q m.versions (logged_keys_below m.floor records (initial_keys m.initial))
       ∙ ap (λ b. b || present q (logged_keys_below m.floor records (initial_keys m.initial))) (any_splits m.floor q m.versions)
-      ∙ ap (λ b. (is_some (last_below m.floor 0 (version_writes q m.versions)) || not (eqb (length (version_writes q (standing m.floor m.versions))) 0)) || b)
+      ∙ ap (λ b. (is_some (last_write_below m.floor 0 (version_writes q m.versions)) || not (eqb (length (version_writes q (versions_from m.floor m.versions))) 0)) || b)
       (logged_present q m.floor m.named (initial_keys m.initial) records stands.valued
-      ∙ ap (λ b. is_some (last_below m.floor 0 (logged_writes q m.named records)) || b) (initial_present q m.initial ∙ sym (initial_some q m.initial))))
+      ∙ ap (λ b. is_some (last_write_below m.floor 0 (logged_writes q m.named records)) || b) (initial_present q m.initial ∙ sym (initial_some q m.initial))))
     where
       swap : (l v i s : Bool) → ((l || (v || i)) || s) ≡ ((v || s) || (l || i))
       swap true true i s = refl

@@ -7,10 +7,10 @@ use Rattle.std.proofs.lemmas.Map.Keys.{apart_from_distinct, IsDistinct-tail, IsD
 use Rattle.std.proofs.lemmas.Map.{NonePasses, none_passes_from_lookup}
 use Rattle.indexmap.specs.IndexMap.{insert_entry}
 use Rattle.lb_base.specs.declared.value.Value.{Value}
-use Rattle.boki_model.specs.Reads.{or_else}
+use Rattle.std.specs.Option.{option_or}
 use Rattle.obj_store.specs.Kept.{KeptObject, total, count_of}
 use Rattle.obj_store.specs.StandsFor.{KeysDiffer}
-use Rattle.obj_store.specs.Steps.{Opens, opened}
+use Rattle.obj_store.specs.Steps.{HoldsInitialObjects, opened}
 use Rattle.obj_store.proofs.Entries.{same_key, absent_adds}
 
 key_at : (vs : List (List ℕ × Value)) (i : ℕ) (d : List ℕ × Value) → i < length vs → get_or (keys_of vs) i d.0 ≡ (get_or vs i d).0
@@ -40,20 +40,20 @@ not_before (v ∷ vs) (suc i) d distinct lt =
     ∙ not_before vs i d (IsDistinct-tail bytes_eq v.0 (keys_of vs) distinct) (omega arith)
 
 found_more : (q : List ℕ) (vs : List (List ℕ × Value)) (i : ℕ) (d : List ℕ × Value) → i < length vs
-    → lookup (bytes_eq q) (take (i + 1) vs) ≡ or_else (lookup (bytes_eq q) (take i vs)) (cond (bytes_eq q (get_or vs i d).0) (Some (get_or vs i d).1) None)
+    → lookup (bytes_eq q) (take (i + 1) vs) ≡ option_or (lookup (bytes_eq q) (take i vs)) (cond (bytes_eq q (get_or vs i d).0) (Some (get_or vs i d).1) None)
 found_more q [] i d lt = absurd (let h : ⊥ = omega arith in h)
 found_more q (v ∷ vs) zero d lt = refl
 found_more q (v ∷ vs) (suc i) d lt =
     ap (λ (n : ℕ). lookup (bytes_eq q) (take n (v ∷ vs))) (let e : suc i + 1 ≡ suc (i + 1) = omega arith in e) ∙ by (bytes_eq q v.0) (found_more q vs i d (omega arith))
   where
-    by : (b : Bool) → lookup (bytes_eq q) (take (i + 1) vs) ≡ or_else (lookup (bytes_eq q) (take i vs)) (cond (bytes_eq q (get_or vs i d).0) (Some (get_or vs i d).1) None)
-        → cond b (Some v.1) (lookup (bytes_eq q) (take (i + 1) vs)) ≡ or_else (cond b (Some v.1) (lookup (bytes_eq q) (take i vs))) (cond (bytes_eq q (get_or vs i d).0) (Some (get_or vs i d).1) None)
+    by : (b : Bool) → lookup (bytes_eq q) (take (i + 1) vs) ≡ option_or (lookup (bytes_eq q) (take i vs)) (cond (bytes_eq q (get_or vs i d).0) (Some (get_or vs i d).1) None)
+        → cond b (Some v.1) (lookup (bytes_eq q) (take (i + 1) vs)) ≡ option_or (cond b (Some v.1) (lookup (bytes_eq q) (take i vs))) (cond (bytes_eq q (get_or vs i d).0) (Some (get_or vs i d).1) None)
     by true ih = refl
     by false ih = ih
 
 pub opens_more : (vs : List (List ℕ × Value)) (i : ℕ) (d : List ℕ × Value) (key : List ℕ) (o : KeptObject) (es fs : List (List ℕ × KeptObject)) → i < length vs → IsDistinct bytes_eq (keys_of vs)
-    → key ≡ (get_or vs i d).0 → o ≡ opened (get_or vs i d).1 → Opens (take i vs) es → fs ≡ insert_entry bytes_eq es key o
-    → ((q : List ℕ) → lookup (bytes_eq q) fs ≡ cond (bytes_eq key q) (Some o) (lookup (bytes_eq q) es)) → IsDistinct bytes_eq (keys_of fs) → Opens (take (i + 1) vs) fs
+    → key ≡ (get_or vs i d).0 → o ≡ opened (get_or vs i d).1 → HoldsInitialObjects (take i vs) es → fs ≡ insert_entry bytes_eq es key o
+    → ((q : List ℕ) → lookup (bytes_eq q) fs ≡ cond (bytes_eq key q) (Some o) (lookup (bytes_eq q) es)) → IsDistinct bytes_eq (keys_of fs) → HoldsInitialObjects (take (i + 1) vs) fs
 opens_more vs i d key o es fs lt distinct is value opens set finds unique = record {
   finds = λ q. finds q ∙ ap (λ (r : Option KeptObject). cond (bytes_eq key q) (Some o) r) (opens.finds q) ∙ by q (bytes_eq key q) refl ∙ ap (option_map opened) (sym (found_more q vs i d lt));
   total = ap total set ∙ absent_adds key o es absent ∙ (let e = ap count_of value in let l = taken vs i lt in let t = opens.total in omega arith);
@@ -71,16 +71,16 @@ opens_more vs i d key o es fs lt distinct is value opens set finds unique = reco
     absent : lookup (bytes_eq key) es ≡ None
     absent = opens.finds key ∙ ap (option_map opened) none
 
-    or_none : (r : Option Value) → or_else r None ≡ r
+    or_none : (r : Option Value) → option_or r None ≡ r
     or_none None = refl
     or_none (Some v) = refl
 
     by : (q : List ℕ) (b : Bool) → bytes_eq key q ≡ b
-        → cond b (Some o) (option_map opened (lookup (bytes_eq q) (take i vs))) ≡ option_map opened (or_else (lookup (bytes_eq q) (take i vs)) (cond (bytes_eq q (get_or vs i d).0) (Some (get_or vs i d).1) None))
+        → cond b (Some o) (option_map opened (lookup (bytes_eq q) (take i vs))) ≡ option_map opened (option_or (lookup (bytes_eq q) (take i vs)) (cond (bytes_eq q (get_or vs i d).0) (Some (get_or vs i d).1) None))
     by q true e =
         ap Some value
-        ∙ sym (ap (λ (r : Option Value). option_map opened (or_else r (cond (bytes_eq q (get_or vs i d).0) (Some (get_or vs i d).1) None))) (ap (λ (k : List ℕ). lookup (bytes_eq k) (take i vs)) (sym (same_key key q e)) ∙ none)
+        ∙ sym (ap (λ (r : Option Value). option_map opened (option_or r (cond (bytes_eq q (get_or vs i d).0) (Some (get_or vs i d).1) None))) (ap (λ (k : List ℕ). lookup (bytes_eq k) (take i vs)) (sym (same_key key q e)) ∙ none)
         ∙ ap (λ b. option_map opened (cond b (Some (get_or vs i d).1) None)) (nat_list_eq_equiv.symm q (get_or vs i d).0 ∙ ap (λ (k : List ℕ). bytes_eq k q) (sym is) ∙ e))
     by q false e =
         ap (option_map opened) (sym (or_none (lookup (bytes_eq q) (take i vs))))
-        ∙ ap (λ b. option_map opened (or_else (lookup (bytes_eq q) (take i vs)) (cond b (Some (get_or vs i d).1) None))) (sym (nat_list_eq_equiv.symm q (get_or vs i d).0 ∙ ap (λ (k : List ℕ). bytes_eq k q) (sym is) ∙ e))
+        ∙ ap (λ b. option_map opened (option_or (lookup (bytes_eq q) (take i vs)) (cond b (Some (get_or vs i d).1) None))) (sym (nat_list_eq_equiv.symm q (get_or vs i d).0 ∙ ap (λ (k : List ℕ). bytes_eq k q) (sym is) ∙ e))

@@ -4,14 +4,14 @@ use Rattle.std.specs.List.{IsDistinct}
 use Rattle.std.proofs.lemmas.List.{length_push}
 use Rattle.std.specs.Cmp.Lexicographic.{nat_list_eq_equiv}
 use Rattle.boki_model.specs.Maps.{has}
-use Rattle.boki_model.specs.Writes.{Write, is_below, later, with}
+use Rattle.boki_model.specs.Writes.{Write, is_below, later_write, prepend_some}
 use Rattle.lb_base.specs.declared.value.Value.{Value}
 use Rattle.boki_types.specs.declared.store.Name.{Name}
 use Rattle.boki_types.specs.declared.store.Settled.{Settled}
-use Rattle.obj_store.specs.declared.objects.Passed.{Passed}
-use Rattle.obj_store.specs.Kept.{KeptObject, object_in, has_key, base_count, put_in, is_name, value_in}
-use Rattle.obj_store.specs.Sweeps.{one_passed, passed_of, has_settled}
-use Rattle.obj_store.specs.Steps.{Widens, Changes, Puts, with_version, Raises, Lifts, raised_to, lifted, lifted_one, has_passed}
+use Rattle.obj_store.specs.declared.objects.SweptWrite.{SweptWrite}
+use Rattle.obj_store.specs.Kept.{KeptObject, object_in, has_key, base_count, insert_write, same_name_pair, value_under}
+use Rattle.obj_store.specs.Sweeps.{swept_write, swept_writes, has_settled}
+use Rattle.obj_store.specs.Steps.{AddsEmptyObjects, ChangesObject, PutsVersion, with_version, RaisesFences, LiftsBases, raised_to, lifted, lifted_one, has_swept_write}
 use Rattle.obj_store.proofs.Entries.{same_key, key_itself}
 
 lists_flip : (k q : List ℕ) → bytes_eq k q ≡ bytes_eq q k
@@ -45,7 +45,7 @@ has_more keys i d lt es fs keeps there here k h =
     decided (has k (take i keys)) (has_key k fs ≡ true) (λ e. keeps k (there k e))
     (λ fresh. subst (λ (q : List ℕ). has_key q fs ≡ true) (sym (has_take k keys i d lt h fresh)) here)
 
-passed_take : (k : List ℕ) (ps : List Passed) (i : ℕ) (d : Passed) → i < length ps → has_passed k (take (i + 1) ps) ≡ true → (has_passed k (take i ps) ≡ true → ⊥) → k ≡ (get_or ps i d).key
+passed_take : (k : List ℕ) (ps : List SweptWrite) (i : ℕ) (d : SweptWrite) → i < length ps → has_swept_write k (take (i + 1) ps) ≡ true → (has_swept_write k (take i ps) ≡ true → ⊥) → k ≡ (get_or ps i d).key
 passed_take k [] i d lt h fresh = absurd (let n : ⊥ = omega arith in n)
 passed_take k (x ∷ xs) zero d lt h fresh = at (bytes_eq k x.key) refl h
   where
@@ -53,20 +53,20 @@ passed_take k (x ∷ xs) zero d lt h fresh = at (bytes_eq k x.key) refl h
     at true e h = same_key k x.key e
     at false e h = absurd (let n : ⊥ = cc in n)
 passed_take k (x ∷ xs) (suc i) d lt h fresh =
-    at (bytes_eq k x.key) refl (subst (λ (n : ℕ). has_passed k (take n (x ∷ xs)) ≡ true) (let n : suc i + 1 ≡ suc (i + 1) = omega arith in n) h) fresh (passed_take k xs i d (omega arith))
+    at (bytes_eq k x.key) refl (subst (λ (n : ℕ). has_swept_write k (take n (x ∷ xs)) ≡ true) (let n : suc i + 1 ≡ suc (i + 1) = omega arith in n) h) fresh (passed_take k xs i d (omega arith))
   where
-    at : (b : Bool) → bytes_eq k x.key ≡ b → (b || has_passed k (take (i + 1) xs)) ≡ true → ((b || has_passed k (take i xs)) ≡ true → ⊥)
-        → (has_passed k (take (i + 1) xs) ≡ true → (has_passed k (take i xs) ≡ true → ⊥) → k ≡ (get_or xs i d).key) → k ≡ (get_or xs i d).key
+    at : (b : Bool) → bytes_eq k x.key ≡ b → (b || has_swept_write k (take (i + 1) xs)) ≡ true → ((b || has_swept_write k (take i xs)) ≡ true → ⊥)
+        → (has_swept_write k (take (i + 1) xs) ≡ true → (has_swept_write k (take i xs) ≡ true → ⊥) → k ≡ (get_or xs i d).key) → k ≡ (get_or xs i d).key
     at true e h fresh ih = absurd (fresh refl)
     at false e h fresh ih = ih h fresh
 
-pub passed_more : (ps : List Passed) (i : ℕ) (d : Passed) → i < length ps → (es fs : List (List ℕ × KeptObject))
+pub passed_more : (ps : List SweptWrite) (i : ℕ) (d : SweptWrite) → i < length ps → (es fs : List (List ℕ × KeptObject))
     → ((k : List ℕ) → has_key k es ≡ true → has_key k fs ≡ true)
-    → ((k : List ℕ) → has_passed k (take i ps) ≡ true → has_key k es ≡ true)
+    → ((k : List ℕ) → has_swept_write k (take i ps) ≡ true → has_key k es ≡ true)
     → has_key (get_or ps i d).key fs ≡ true
-    → (k : List ℕ) → has_passed k (take (i + 1) ps) ≡ true → has_key k fs ≡ true
+    → (k : List ℕ) → has_swept_write k (take (i + 1) ps) ≡ true → has_key k fs ≡ true
 passed_more ps i d lt es fs keeps there here k h =
-    decided (has_passed k (take i ps)) (has_key k fs ≡ true) (λ e. keeps k (there k e))
+    decided (has_swept_write k (take i ps)) (has_key k fs ≡ true) (λ e. keeps k (there k e))
     (λ fresh. subst (λ (q : List ℕ). has_key q fs ≡ true) (sym (passed_take k ps i d lt h fresh)) here)
 
 pub has_at_place : (keys : List (List ℕ)) (i : ℕ) (d : List ℕ) → i < length keys → has (get_or keys i d) keys ≡ true
@@ -95,7 +95,7 @@ has_take_more k (x ∷ xs) (suc i) d lt =
 
 -- one more fence is raised
 pub raises_more : (keys : List (List ℕ)) (at i : ℕ) (key d : List ℕ) (es fs gs : List (List ℕ × KeptObject)) → i < length keys → key ≡ get_or keys i d
-    → Raises (take i keys) at es fs → Changes key (raised_to at) fs gs → Raises (take (i + 1) keys) at es gs
+    → RaisesFences (take i keys) at es fs → ChangesObject key (raised_to at) fs gs → RaisesFences (take (i + 1) keys) at es gs
 raises_more keys n i key d es fs gs lt is h g = record {
   objects = λ k. g.objects k ∙ ap (λ (o : KeptObject). cond (bytes_eq key k) (raised_to n o) o) (h.objects k) ∙ both k (has k (take i keys)) (bytes_eq key k) refl
       ∙ ap (λ b. cond b (raised_to n (object_in k es)) (object_in k es)) (sym (has_take_more k keys i d lt ∙ ap (λ (q : List ℕ). has k (take i keys) || bytes_eq k q) (sym is)));
@@ -119,20 +119,20 @@ raises_more keys n i key d es fs gs lt is h g = record {
 
 -- logged writes made the bases
 
-pub lifted_push : (k : List ℕ) (ps : List Passed) (p : Passed) (o : KeptObject) → lifted k (ps ++ p ∷ []) o ≡ lifted_one k p (lifted k ps o)
+pub lifted_push : (k : List ℕ) (ps : List SweptWrite) (p : SweptWrite) (o : KeptObject) → lifted k (ps ++ p ∷ []) o ≡ lifted_one k p (lifted k ps o)
 lifted_push k [] p o = refl
 lifted_push k (x ∷ xs) p o = lifted_push k xs p (lifted_one k x o)
 
-pub lifts_more : (ps : List Passed) (p : Passed) (key : List ℕ) (es fs gs : List (List ℕ × KeptObject)) → key ≡ p.key → Lifts ps es fs
-    → Changes key (λ (o : KeptObject). let q : KeptObject = record o { base = later p.write o.base } in q) fs gs → Lifts (ps ++ p ∷ []) es gs
+pub lifts_more : (ps : List SweptWrite) (p : SweptWrite) (key : List ℕ) (es fs gs : List (List ℕ × KeptObject)) → key ≡ p.key → LiftsBases ps es fs
+    → ChangesObject key (λ (o : KeptObject). let q : KeptObject = record o { base = later_write p.write o.base } in q) fs gs → LiftsBases (ps ++ p ∷ []) es gs
 lifts_more ps p key es fs gs is h g = record {
-  objects = λ k. g.objects k ∙ ap (λ b. cond b (record (object_in k fs) { base = later p.write (object_in k fs).base }) (object_in k fs)) (lists_flip key k ∙ ap (bytes_eq k) is)
+  objects = λ k. g.objects k ∙ ap (λ b. cond b (record (object_in k fs) { base = later_write p.write (object_in k fs).base }) (object_in k fs)) (lists_flip key k ∙ ap (bytes_eq k) is)
       ∙ ap (lifted_one k p) (h.objects k) ∙ sym (lifted_push k ps p (object_in k es));
   keys = g.keys ∙ h.keys;
   total = omega (arith, h.total, g.total, length_push ps p, by_one (object_in key fs).base);
 }
   where
-    one_more : (o : Option Write) → base_count (later p.write o) ≡ 1
+    one_more : (o : Option Write) → base_count (later_write p.write o) ≡ 1
     one_more None = refl
     one_more (Some v) = at (is_below p.write.first p.write.second v.first v.second)
       where
@@ -140,81 +140,81 @@ lifts_more ps p key es fs gs is h g = record {
         at true = refl
         at false = refl
 
-    by_one : (o : Option Write) → base_count (later p.write o) ≤ base_count o + 1
+    by_one : (o : Option Write) → base_count (later_write p.write o) ≤ base_count o + 1
     by_one o = omega (arith, one_more o)
 
-pub passed_at_place : (ps : List Passed) (i : ℕ) (d : Passed) → i < length ps → has_passed (get_or ps i d).key ps ≡ true
+pub passed_at_place : (ps : List SweptWrite) (i : ℕ) (d : SweptWrite) → i < length ps → has_swept_write (get_or ps i d).key ps ≡ true
 passed_at_place [] i d lt = absurd (let n : ⊥ = omega arith in n)
-passed_at_place (x ∷ xs) zero d lt = ap (λ b. b || has_passed x.key xs) (key_itself x.key)
+passed_at_place (x ∷ xs) zero d lt = ap (λ b. b || has_swept_write x.key xs) (key_itself x.key)
 passed_at_place (x ∷ xs) (suc i) d lt = at (bytes_eq (get_or xs i d).key x.key) (passed_at_place xs i d (omega arith))
   where
-    at : (b : Bool) → has_passed (get_or xs i d).key xs ≡ true → (b || has_passed (get_or xs i d).key xs) ≡ true
+    at : (b : Bool) → has_swept_write (get_or xs i d).key xs ≡ true → (b || has_swept_write (get_or xs i d).key xs) ≡ true
     at true h = refl
     at false h = h
 
 -- names are taken out
 
 pub removed_more : (ss : List Settled) (i : ℕ) (s : Settled) (es fs gs : List ((List ℕ × ℕ) × Value)) → i < length ss → s ≡ get_or ss i s
-    → ((n : Name) → value_in n fs ≡ cond (has_settled n (take i ss)) None (value_in n es))
-    → ((n : Name) → value_in n gs ≡ cond (is_name (s.name.path, s.name.place) (n.path, n.place)) None (value_in n fs))
-    → (n : Name) → value_in n gs ≡ cond (has_settled n (take (i + 1) ss)) None (value_in n es)
+    → ((n : Name) → value_under n fs ≡ cond (has_settled n (take i ss)) None (value_under n es))
+    → ((n : Name) → value_under n gs ≡ cond (same_name_pair (s.name.path, s.name.place) (n.path, n.place)) None (value_under n fs))
+    → (n : Name) → value_under n gs ≡ cond (has_settled n (take (i + 1) ss)) None (value_under n es)
 removed_more ss i s es fs gs lt is h g n =
-    g n ∙ ap (λ (o : Option Value). cond (is_name (s.name.path, s.name.place) (n.path, n.place)) None o) (h n)
-    ∙ both (is_name (s.name.path, s.name.place) (n.path, n.place)) (has_settled n (take i ss))
-    ∙ ap (λ b. cond b None (value_in n es)) (sym (more ss i lt ∙ ap (λ (x : Settled). has_settled n (take i ss) || is_name (x.name.path, x.name.place) (n.path, n.place)) (sym is)))
+    g n ∙ ap (λ (o : Option Value). cond (same_name_pair (s.name.path, s.name.place) (n.path, n.place)) None o) (h n)
+    ∙ both (same_name_pair (s.name.path, s.name.place) (n.path, n.place)) (has_settled n (take i ss))
+    ∙ ap (λ b. cond b None (value_under n es)) (sym (more ss i lt ∙ ap (λ (x : Settled). has_settled n (take i ss) || same_name_pair (x.name.path, x.name.place) (n.path, n.place)) (sym is)))
   where
-    both : (a b : Bool) → cond a None (cond b None (value_in n es)) ≡ cond (b || a) None (value_in n es)
+    both : (a b : Bool) → cond a None (cond b None (value_under n es)) ≡ cond (b || a) None (value_under n es)
     both true true = refl
     both true false = refl
     both false true = refl
     both false false = refl
 
-    more : (ss : List Settled) (i : ℕ) → i < length ss → has_settled n (take (i + 1) ss) ≡ (has_settled n (take i ss) || is_name ((get_or ss i s).name.path, (get_or ss i s).name.place) (n.path, n.place))
+    more : (ss : List Settled) (i : ℕ) → i < length ss → has_settled n (take (i + 1) ss) ≡ (has_settled n (take i ss) || same_name_pair ((get_or ss i s).name.path, (get_or ss i s).name.place) (n.path, n.place))
     more [] i lt = absurd (let h : ⊥ = omega arith in h)
-    more (x ∷ xs) zero lt = at (is_name (x.name.path, x.name.place) (n.path, n.place))
+    more (x ∷ xs) zero lt = at (same_name_pair (x.name.path, x.name.place) (n.path, n.place))
       where
         at : (b : Bool) → (b || false) ≡ (false || b)
         at true = refl
         at false = refl
     more (x ∷ xs) (suc i) lt =
-        ap (λ (m : ℕ). has_settled n (take m (x ∷ xs))) (let e : suc i + 1 ≡ suc (i + 1) = omega arith in e) ∙ at (is_name (x.name.path, x.name.place) (n.path, n.place)) (more xs i (omega arith))
+        ap (λ (m : ℕ). has_settled n (take m (x ∷ xs))) (let e : suc i + 1 ≡ suc (i + 1) = omega arith in e) ∙ at (same_name_pair (x.name.path, x.name.place) (n.path, n.place)) (more xs i (omega arith))
       where
-        at : (b : Bool) → has_settled n (take (i + 1) xs) ≡ (has_settled n (take i xs) || is_name ((get_or xs i s).name.path, (get_or xs i s).name.place) (n.path, n.place))
-            → (b || has_settled n (take (i + 1) xs)) ≡ ((b || has_settled n (take i xs)) || is_name ((get_or xs i s).name.path, (get_or xs i s).name.place) (n.path, n.place))
+        at : (b : Bool) → has_settled n (take (i + 1) xs) ≡ (has_settled n (take i xs) || same_name_pair ((get_or xs i s).name.path, (get_or xs i s).name.place) (n.path, n.place))
+            → (b || has_settled n (take (i + 1) xs)) ≡ ((b || has_settled n (take i xs)) || same_name_pair ((get_or xs i s).name.path, (get_or xs i s).name.place) (n.path, n.place))
         at true ih = refl
         at false ih = ih
 
 -- copies of the logged writes that have a value
 
-with_append : (o : Option Passed) (xs ys : List Passed) → with o (xs ++ ys) ≡ with o xs ++ ys
+with_append : (o : Option SweptWrite) (xs ys : List SweptWrite) → prepend_some o (xs ++ ys) ≡ prepend_some o xs ++ ys
 with_append None xs ys = refl
 with_append (Some p) xs ys = refl
 
-pub passed_of_more : (named : List ((List ℕ × ℕ) × Value)) (ss : List Settled) (i : ℕ) (s : Settled) (o : Option Passed) (ps qs : List Passed) → i < length ss → s ≡ get_or ss i s
-    → ps ≡ passed_of named (take i ss) → o ≡ one_passed named s → qs ≡ ps ++ with o [] → qs ≡ passed_of named (take (i + 1) ss)
+pub passed_of_more : (named : List ((List ℕ × ℕ) × Value)) (ss : List Settled) (i : ℕ) (s : Settled) (o : Option SweptWrite) (ps qs : List SweptWrite) → i < length ss → s ≡ get_or ss i s
+    → ps ≡ swept_writes named (take i ss) → o ≡ swept_write named s → qs ≡ ps ++ prepend_some o [] → qs ≡ swept_writes named (take (i + 1) ss)
 passed_of_more named ss i s o ps qs lt is before one push =
-    push ∙ ap (λ (l : List Passed). l ++ with o []) before
-    ∙ ap (λ (p : Option Passed). passed_of named (take i ss) ++ with p []) (one ∙ ap (one_passed named) is) ∙ sym (more ss i lt)
+    push ∙ ap (λ (l : List SweptWrite). l ++ prepend_some o []) before
+    ∙ ap (λ (p : Option SweptWrite). swept_writes named (take i ss) ++ prepend_some p []) (one ∙ ap (swept_write named) is) ∙ sym (more ss i lt)
   where
-    more : (ss : List Settled) (i : ℕ) → i < length ss → passed_of named (take (i + 1) ss) ≡ passed_of named (take i ss) ++ with (one_passed named (get_or ss i s)) []
+    more : (ss : List Settled) (i : ℕ) → i < length ss → swept_writes named (take (i + 1) ss) ≡ swept_writes named (take i ss) ++ prepend_some (swept_write named (get_or ss i s)) []
     more [] i lt = absurd (let h : ⊥ = omega arith in h)
     more (x ∷ xs) zero lt = refl
     more (x ∷ xs) (suc i) lt =
-        ap (λ (m : ℕ). passed_of named (take m (x ∷ xs))) (let e : suc i + 1 ≡ suc (i + 1) = omega arith in e)
-        ∙ ap (with (one_passed named x)) (more xs i (omega arith))
-        ∙ with_append (one_passed named x) (passed_of named (take i xs)) (with (one_passed named (get_or xs i s)) [])
+        ap (λ (m : ℕ). swept_writes named (take m (x ∷ xs))) (let e : suc i + 1 ≡ suc (i + 1) = omega arith in e)
+        ∙ ap (prepend_some (swept_write named x)) (more xs i (omega arith))
+        ∙ with_append (swept_write named x) (swept_writes named (take i xs)) (prepend_some (swept_write named (get_or xs i s)) [])
 
 -- a version is put in
 
-pub length_put_in : (w : Write) (ws : List Write) → length (put_in w ws) ≡ length ws + 1
+pub length_put_in : (w : Write) (ws : List Write) → length (insert_write w ws) ≡ length ws + 1
 length_put_in w [] = refl
 length_put_in w (v ∷ vs) = at (is_below v.first v.second w.first w.second) (length_put_in w vs)
   where
-    at : (b : Bool) → length (put_in w vs) ≡ length vs + 1 → length (cond b (v ∷ put_in w vs) (w ∷ v ∷ vs)) ≡ suc (length vs) + 1
+    at : (b : Bool) → length (insert_write w vs) ≡ length vs + 1 → length (cond b (v ∷ insert_write w vs) (w ∷ v ∷ vs)) ≡ suc (length vs) + 1
     at true ih = omega arith
     at false ih = omega arith
 
-pub puts_is : (key : List ℕ) (w v : Write) (es fs gs : List (List ℕ × KeptObject)) → v ≡ w → Widens es fs → Changes key (with_version v) fs gs → Puts key w es gs
+pub puts_is : (key : List ℕ) (w v : Write) (es fs gs : List (List ℕ × KeptObject)) → v ≡ w → AddsEmptyObjects es fs → ChangesObject key (with_version v) fs gs → PutsVersion key w es gs
 puts_is key w v es fs gs is h g = record {
   objects = λ k. g.objects k ∙ ap (λ (o : KeptObject). cond (bytes_eq key k) (with_version v o) o) (h.objects k)
       ∙ ap (λ (x : Write). cond (bytes_eq key k) (with_version x (object_in k es)) (object_in k es)) is;

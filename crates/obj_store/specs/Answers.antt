@@ -10,20 +10,20 @@ use Rattle.boki_model.specs.Live.{Live}
 use Rattle.obj_store.specs.declared.answers.Logged.{Logged}
 use Rattle.obj_store.specs.declared.answers.Read.{Read}
 use Rattle.obj_store.specs.declared.answers.Read.TheVariants as r
-use Rattle.obj_store.specs.Kept.{Kept}
+use Rattle.obj_store.specs.Kept.{StoreState}
 use Rattle.obj_store.specs.StandsFor.{last_logged, IsCovered}
 
 -- a free read's answer, with the value that it lends
-abbrev pub shown : Read → Fenced
-shown (r.Found v) = f.Found v.now
-shown r.Missing = f.Missing
-shown r.Gone = f.Gone
+abbrev pub fenced_of : Read → Fenced
+fenced_of (r.Found v) = f.Found v.now
+fenced_of r.Missing = f.Missing
+fenced_of r.Gone = f.Gone
 
-abbrev pub told : Logged → ℕ × (Name × Option Value)
-told l = (l.seq.0, (l.name, option_copied l.here))
+abbrev pub logged_parts : Logged → ℕ × (Name × Option Value)
+logged_parts l = (l.seq.0, (l.name, option_copied l.here))
 
 -- What a read is told: the last live logged write of the key below n, or None where there is none. Its value is in its record, or
 -- is kept under its name, or a base of the key at or above it is kept.
-pub record IsTold (key : List ℕ) (n : ℕ) (kept : Kept) (records : List (Live Body)) (logged : Option Logged) : Type 0 where
-  pub last : option_map told logged ≡ last_logged key n records
-  pub covered : MatchOption logged (Unit {0}) (λ l. IsCovered key kept (told l))
+pub record IsLastLogged (key : List ℕ) (n : ℕ) (kept : StoreState) (records : List (Live Body)) (logged : Option Logged) : Type 0 where
+  pub last : option_map logged_parts logged ≡ last_logged key n records
+  pub covered : MatchOption logged (Unit {0}) (λ l. IsCovered key kept (logged_parts l))

@@ -6,12 +6,12 @@ use Rattle.lb_base.specs.declared.value.Value.{Value}
 use Rattle.boki_types.specs.declared.body.Body.{Body}
 use Rattle.boki_model.specs.Live.{Live}
 use Rattle.boki_model.specs.Maps.{key_order}
-use Rattle.boki_model.specs.Writes.{Version, Store, and_key, initial_keys, logged_keys_below}
+use Rattle.boki_model.specs.Writes.{Version, Store, add_key, initial_keys, logged_keys_below}
 use Rattle.obj_store.specs.Kept.{KeptObject, count_of}
 
 abbrev pub version_keys : List Version → List (List ℕ × Value) → List (List ℕ × Value)
 version_keys [] keys = keys
-version_keys (v ∷ vs) keys = and_key v.key (version_keys vs keys)
+version_keys (v ∷ vs) keys = add_key v.key (version_keys vs keys)
 
 -- those of initial objects, of versions, and of live logged writes below the floor, each once, in the order of their bytes
 abbrev pub keys_in : Store → List (Live Body) → List (List ℕ)

@@ -5,10 +5,10 @@ use Rattle.boki_types.specs.declared.body.Body.{Body}
 use Rattle.boki_types.specs.declared.store.Name.{Name}
 use Rattle.boki_types.specs.declared.store.Settled.{Settled}
 use Rattle.boki_model.specs.Live.{Live}
-use Rattle.boki_model.specs.Reads.{or_else}
-use Rattle.boki_model.specs.Writes.{logged_write, write_at, with}
-use Rattle.obj_store.specs.Kept.{is_name, value_in}
-use Rattle.obj_store.specs.declared.objects.Passed.{Passed}
+use Rattle.std.specs.Option.{option_or}
+use Rattle.boki_model.specs.Writes.{logged_write, write_at, prepend_some}
+use Rattle.obj_store.specs.Kept.{same_name_pair, value_under}
+use Rattle.obj_store.specs.declared.objects.SweptWrite.{SweptWrite}
 
 abbrev pub settled_of : Bool → ℕ → Option (List ℕ × (Name × Option Value)) → List Settled
 settled_of true seq (Some w) = record { key = w.0; seq = record { 0 = seq }; name = w.1.0; here = w.1.1 } ∷ []
@@ -21,7 +21,7 @@ logged_between low high (x ∷ xs) = logged_between low high xs ++ settled_of (n
 
 -- the value of a logged write: the one that its record holds, or the one that is kept under its name
 abbrev pub settled_value : List ((List ℕ × ℕ) × Value) → Settled → Option Value
-settled_value named s = or_else s.here (value_in s.name named)
+settled_value named s = option_or s.here (value_under s.name named)
 
 -- each has a value
 abbrev pub AllHaveValues : List ((List ℕ × ℕ) × Value) → List Settled → Type 0
@@ -29,14 +29,14 @@ AllHaveValues named [] = Unit {0}
 AllHaveValues named (s ∷ ss) = IsTrue (is_some (settled_value named s)) × AllHaveValues named ss
 
 -- a logged write that has a value, as it is made the base of its object
-abbrev pub one_passed : List ((List ℕ × ℕ) × Value) → Settled → Option Passed
-one_passed named s = option_map (λ v. record { key = s.key; write = write_at s.seq.0 0 v }) (settled_value named s)
+abbrev pub swept_write : List ((List ℕ × ℕ) × Value) → Settled → Option SweptWrite
+swept_write named s = option_map (λ v. record { key = s.key; write = write_at s.seq.0 0 v }) (settled_value named s)
 
-abbrev pub passed_of : List ((List ℕ × ℕ) × Value) → List Settled → List Passed
-passed_of named [] = []
-passed_of named (s ∷ ss) = with (one_passed named s) (passed_of named ss)
+abbrev pub swept_writes : List ((List ℕ × ℕ) × Value) → List Settled → List SweptWrite
+swept_writes named [] = []
+swept_writes named (s ∷ ss) = prepend_some (swept_write named s) (swept_writes named ss)
 
 -- whether one of them has the name
 abbrev pub has_settled : Name → List Settled → Bool
 has_settled n [] = false
-has_settled n (s ∷ ss) = is_name (s.name.path, s.name.place) (n.path, n.place) || has_settled n ss
+has_settled n (s ∷ ss) = same_name_pair (s.name.path, s.name.place) (n.path, n.place) || has_settled n ss

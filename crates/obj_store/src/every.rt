@@ -6,56 +6,56 @@ ghost use Rattle.boki_model.specs.Maps.{has};
 ghost use Rattle.indexmap.specs.IndexMap.{set_value_at};
 ghost use Rattle.obj_store.specs.Ascending.{Ascend};
 ghost use Rattle.obj_store.specs.Kept.{KeptObject, object_in, has_key, count_of, total};
-ghost use Rattle.obj_store.specs.Steps.{Raises, Lifts, AllAscend, raised_to, settled_at, settled_all, lifted, has_passed, count_in};
+ghost use Rattle.obj_store.specs.Steps.{RaisesFences, LiftsBases, AllAscend, raised_to, swept_object, swept_objects, lifted, has_swept_write, count_at_cursor};
 
-use crate::objects::{Objects, Passed, lift, raise};
+use crate::objects::{Objects, SweptWrite, lift, raise};
 use lb_base::{Seqnum, Words};
 
 /// Raises the fence of each of the objects, which have entries.
 pub fn raise_all(objects: &mut Objects, keys: &[Words], at: Seqnum)
     requires { (k : List ℕ) → has k keys.now ≡ true → has_key k objects.old.entries ≡ true }
-    ensures { Raises keys.now at.0 objects.old.entries objects.new.entries }
+    ensures { RaisesFences keys.now at.0 objects.old.entries objects.new.entries }
 {
     for key in keys {
         raise(objects, key.as_str(), at);
     }
 }
 
-// Makes the object at a place settle below the floor.
-fn settle_at(objects: &mut Objects, place: usize, floor: Seqnum)
+// Makes the object at a index settle below the floor.
+fn sweep_object_at(objects: &mut Objects, index: usize, floor: Seqnum)
     ensures keys { keys_of objects.new.entries ≡ keys_of objects.old.entries }
-    ensures settled { (e : List ℕ × KeptObject) → slice_get objects.old.entries place ≡ Some e → Ascend e.1.versions → objects.new.entries ≡ set_value_at objects.old.entries place (settled_at floor.0 e.1) }
+    ensures settled { (e : List ℕ × KeptObject) → slice_get objects.old.entries index ≡ Some e → Ascend e.1.versions → objects.new.entries ≡ set_value_at objects.old.entries index (swept_object floor.0 e.1) }
 {
-    if let Some(object) = objects.get_index_mut(place) {
-        object.settle(floor);
+    if let Some(object) = objects.get_index_mut(index) {
+        object.sweep_below(floor);
     }
 }
 
 /// Makes each object settle below the floor.
-pub fn settle_all(objects: &mut Objects, floor: Seqnum)
+pub fn sweep_objects(objects: &mut Objects, floor: Seqnum)
     ensures keys { keys_of objects.new.entries ≡ keys_of objects.old.entries }
-    ensures settled { AllAscend objects.old.entries → objects.new.entries ≡ settled_all floor.0 objects.old.entries }
+    ensures settled { AllAscend objects.old.entries → objects.new.entries ≡ swept_objects floor.0 objects.old.entries }
 {
-    for place in 0..objects.len() {
-        settle_at(objects, place, floor);
+    for index in 0..objects.len() {
+        sweep_object_at(objects, index, floor);
     }
 }
 
 /// Lifts the bases of objects that have entries to logged writes, each in turn.
-pub fn lift_all(objects: &mut Objects, passed: Vec<Passed>)
-    requires { (k : List ℕ) → has_passed k passed.items ≡ true → has_key k objects.old.entries ≡ true }
-    ensures { Lifts passed.items objects.old.entries objects.new.entries }
+pub fn lift_all(objects: &mut Objects, passed: Vec<SweptWrite>)
+    requires { (k : List ℕ) → has_swept_write k passed.items ≡ true → has_key k objects.old.entries ≡ true }
+    ensures { LiftsBases passed.items objects.old.entries objects.new.entries }
 {
-    for Passed { key, write } in passed {
+    for SweptWrite { key, write } in passed {
         lift(objects, key.as_str(), write);
     }
 }
 
-// How many writes are kept of the object at a place.
-fn len_at(objects: &Objects, place: usize) -> u64
-    ensures { (e : List ℕ × KeptObject) → slice_get objects.now.entries place ≡ Some e → result ≡ count_of e.1 }
+// How many writes are kept of the object at a index.
+fn len_at(objects: &Objects, index: usize) -> u64
+    ensures { (e : List ℕ × KeptObject) → slice_get objects.now.entries index ≡ Some e → result ≡ count_of e.1 }
 {
-    match objects.get_index(place) {
+    match objects.get_index(index) {
         Some((_, object)) => object.len(),
         None => 0,
     }
@@ -66,17 +66,17 @@ pub fn count(objects: &Objects) -> u64
     ensures { total objects.now.entries < 2 ^ 64 → result ≡ total objects.now.entries }
 {
     let mut count = 0u64;
-    for place in 0..objects.len() {
-        count = count.saturating_add(len_at(objects, place));
+    for index in 0..objects.len() {
+        count = count.saturating_add(len_at(objects, index));
     }
     count
 }
 
-// How many versions of the object at a place stand at a cursor.
-fn versions_at(objects: &Objects, place: usize, cursor: Seqnum) -> u64
-    ensures { (e : List ℕ × KeptObject) → slice_get objects.now.entries place ≡ Some e → Ascend e.1.versions → result ≡ count_in cursor.0 e.1 }
+// How many versions of the object at a index stand at a cursor.
+fn versions_at(objects: &Objects, index: usize, cursor: Seqnum) -> u64
+    ensures { (e : List ℕ × KeptObject) → slice_get objects.now.entries index ≡ Some e → Ascend e.1.versions → result ≡ count_at_cursor cursor.0 e.1 }
 {
-    match objects.get_index(place) {
+    match objects.get_index(index) {
         Some((_, object)) => object.count_at(cursor),
         None => 0,
     }
@@ -84,11 +84,11 @@ fn versions_at(objects: &Objects, place: usize, cursor: Seqnum) -> u64
 
 /// How many versions stand at a cursor, where a number of 64 bits tells it.
 pub fn count_at(objects: &Objects, cursor: Seqnum) -> u64
-    ensures { AllAscend objects.now.entries → sum_by (count_in cursor.0) (values_of objects.now.entries) < 2 ^ 64 → result ≡ sum_by (count_in cursor.0) (values_of objects.now.entries) }
+    ensures { AllAscend objects.now.entries → sum_by (count_at_cursor cursor.0) (values_of objects.now.entries) < 2 ^ 64 → result ≡ sum_by (count_at_cursor cursor.0) (values_of objects.now.entries) }
 {
     let mut count = 0u64;
-    for place in 0..objects.len() {
-        count = count.saturating_add(versions_at(objects, place, cursor));
+    for index in 0..objects.len() {
+        count = count.saturating_add(versions_at(objects, index, cursor));
     }
     count
 }

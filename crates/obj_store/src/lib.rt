@@ -15,8 +15,6 @@ mod objects;
 mod sorted;
 mod steps;
 mod store;
-#[cfg(test)]
-mod tests;
 mod writes;
 
 pub use crate::answers::{Logged, Read};

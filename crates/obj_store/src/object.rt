@@ -1,13 +1,13 @@
 //! One object of the store.
 
 ghost use Rattle.std.specs.Prelude.{◌≡◌, ◌↔◌, ℕ, suc, max, nat_le, [], filter, length, option_copied, unwrap_or, ◌==◌, Some, IfOk, OnOk, OnErr, IsTrue};
-ghost use Rattle.boki_model.specs.Reads.{or_else};
-ghost use Rattle.boki_model.specs.Writes.{write_at, later, last_below};
+ghost use Rattle.std.specs.Option.{option_or};
+ghost use Rattle.boki_model.specs.Writes.{write_at, later_write, last_write_below};
 ghost use Rattle.obj_store.specs.Ascending.{Ascend, has_at};
-ghost use Rattle.obj_store.specs.Kept.{KeptObject, blank, count_of, put_in};
-ghost use Rattle.obj_store.specs.Steps.{case_of, settled_at};
+ghost use Rattle.obj_store.specs.Kept.{KeptObject, empty_object, count_of, insert_write};
+ghost use Rattle.obj_store.specs.Steps.{version_status_of, swept_object};
 
-use crate::writes::{Placed, count_at, has_write, keep_from, last_upto, pop_below};
+use crate::writes::{PositionedWrite, count_at, has_write, keep_from, last_upto, pop_below};
 use lb_base::{Memory, Seqnum, Value};
 use std::alloc::Global;
 use std::marker::Model;
@@ -16,8 +16,8 @@ use std::marker::Model;
 /// in the order of their positions; and the fence, 0 where none was raised.
 #[derive(Debug, Drop)]
 pub struct Object {
-    base: Option<Placed>,
-    versions: Vec<Placed>,
+    base: Option<PositionedWrite>,
+    versions: Vec<PositionedWrite>,
     fence: u64,
 }
 
@@ -32,7 +32,7 @@ impl Model for Object {
 impl Object {
     /// An object that was never written or read. It takes no memory.
     pub fn new(alloc: Global) -> Object
-        ensures { result ≡ blank }
+        ensures { result ≡ empty_object }
     {
         Object {
             base: None,
@@ -43,11 +43,11 @@ impl Object {
 
     /// An object with an initial value.
     pub fn initial(alloc: Global, value: &Value) -> Result<Object, Memory>
-        ensures { IfOk result (λ o. o ≡ record blank { base = Some (write_at 0 0 value.now) }) }
+        ensures { IfOk result (λ o. o ≡ record empty_object { base = Some (write_at 0 0 value.now) }) }
     {
         let value = value.clone()?;
         Ok(Object {
-            base: Some(Placed::new(0, 0, value)),
+            base: Some(PositionedWrite::new(0, 0, value)),
             versions: Vec::new(alloc),
             fence: 0,
         })
@@ -94,8 +94,8 @@ impl Object {
     }
 
     /// The last version whose first number is at most `last`, or else the base.
-    pub fn last_upto(&self, last: u64) -> Option<&Placed>
-        ensures { Ascend self.now.versions → option_copied result ≡ or_else (last_below (suc last) 0 self.now.versions) self.now.base }
+    pub fn last_upto(&self, last: u64) -> Option<&PositionedWrite>
+        ensures { Ascend self.now.versions → option_copied result ≡ option_or (last_write_below (suc last) 0 self.now.versions) self.now.base }
     {
         match last_upto(self.versions.as_slice(), last) {
             Some(version) => Some(version),
@@ -103,13 +103,13 @@ impl Object {
         }
     }
 
-    /// Puts a version in at its place. After `Memory` the object is as before.
-    pub fn put(&mut self, version: Placed) -> Result<(), Memory>
-        ensures ok { Ascend self.old.versions → OnOk result (self.new ≡ record self.old { versions = put_in version self.old.versions }) }
+    /// Puts a version in at its index. After `Memory` the object is as before.
+    pub fn put(&mut self, version: PositionedWrite) -> Result<(), Memory>
+        ensures ok { Ascend self.old.versions → OnOk result (self.new ≡ record self.old { versions = insert_write version self.old.versions }) }
         ensures err { OnErr result (self.new ≡ self.old) }
     {
-        let place = version.place_in(self.versions.as_slice());
-        self.versions.insert(place, version)?;
+        let index = version.index_in(self.versions.as_slice());
+        self.versions.insert(index, version)?;
         Ok(())
     }
 
@@ -123,8 +123,8 @@ impl Object {
     }
 
     /// Makes the last version below the floor the base, and drops the versions before it.
-    pub fn settle(&mut self, floor: Seqnum)
-        ensures { Ascend self.old.versions → self.new ≡ settled_at floor.0 self.old }
+    pub fn sweep_below(&mut self, floor: Seqnum)
+        ensures { Ascend self.old.versions → self.new ≡ swept_object floor.0 self.old }
     {
         if let Some(last) = pop_below(&mut self.versions, floor.0) {
             self.base = Some(last);
@@ -133,8 +133,8 @@ impl Object {
     }
 
     /// Makes a logged write the base, where it isn't before the base.
-    pub fn lift(&mut self, write: Placed)
-        ensures { self.new ≡ record self.old { base = later write self.old.base } }
+    pub fn lift(&mut self, write: PositionedWrite)
+        ensures { self.new ≡ record self.old { base = later_write write self.old.base } }
     {
         match &self.base {
             Some(base) if write.is_before_write(base) => {}
@@ -143,24 +143,24 @@ impl Object {
     }
 }
 
-/// How a version stands to its object.
+/// Whether a version is in its object, or may be put in.
 #[derive(Clone, Copy, Debug, PartialEq, Eq)]
-pub enum Case {
+pub enum VersionStatus {
     /// It is there.
-    There,
+    Present,
     /// It isn't there, and the fence is above its cursor.
-    Fenced,
+    BelowFence,
     /// It isn't there, and may be put in.
-    Free,
+    Insertable,
 }
 
-/// How a version stands to an object, where an object that has no entry was never written or read.
-pub fn standing(object: Option<&Object>, cursor: Seqnum, k: u64) -> Case
-    ensures { let o = unwrap_or (option_copied object.entry) blank in Ascend o.versions → result ≡ case_of cursor.0 k o }
+/// The status of a version in an object, where an object that has no entry was never written or read.
+pub fn version_status(object: Option<&Object>, cursor: Seqnum, k: u64) -> VersionStatus
+    ensures { let o = unwrap_or (option_copied object.entry) empty_object in Ascend o.versions → result ≡ version_status_of cursor.0 k o }
 {
     match object {
-        Some(object) if object.has(cursor, k) => Case::There,
-        Some(object) if cursor.0 < object.fence() => Case::Fenced,
-        _ => Case::Free,
+        Some(object) if object.has(cursor, k) => VersionStatus::Present,
+        Some(object) if cursor.0 < object.fence() => VersionStatus::BelowFence,
+        _ => VersionStatus::Insertable,
     }
 }

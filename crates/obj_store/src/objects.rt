@@ -4,16 +4,16 @@ ghost use Rattle.std.specs.Prelude.{◌≡◌, ◌+◌, ◌<◌, ◌^◌, ℕ, s
 ghost use Rattle.std.specs.List.{IsDistinct};
 ghost use Rattle.std.specs.Map.{lookup, keys_of, values_of};
 ghost use Rattle.boki_model.specs.Maps.{has};
-ghost use Rattle.boki_model.specs.Writes.{later};
+ghost use Rattle.boki_model.specs.Writes.{later_write};
 ghost use Rattle.indexmap.specs.IndexMap.{set_value_at};
 ghost use Rattle.obj_store.specs.Ascending.{Ascend};
 ghost use Rattle.obj_store.specs.Kept.{KeptObject, object_in, has_key, total};
 ghost use Rattle.obj_store.specs.StandsFor.{KeysDiffer};
-ghost use Rattle.obj_store.specs.Steps.{Widens, Changes, Opens, raised_to, with_version, settled_at, lifted_one, lifted, has_passed, count_in};
+ghost use Rattle.obj_store.specs.Steps.{AddsEmptyObjects, ChangesObject, HoldsInitialObjects, raised_to, with_version, swept_object, lifted_one, lifted, has_swept_write, count_at_cursor};
 
 use crate::key::Key;
 use crate::object::Object;
-use crate::writes::Placed;
+use crate::writes::PositionedWrite;
 use indexmap::IndexMap;
 use lb_base::{List, Memory, Seqnum, Value, Words};
 use std::alloc::Global;
@@ -23,9 +23,9 @@ pub type Objects = IndexMap<Words, Object>;
 
 /// A logged write that a sweep passes, with the key of its object.
 #[derive(Debug, Drop)]
-pub struct Passed {
+pub struct SweptWrite {
     pub key: Words,
-    pub write: Placed,
+    pub write: PositionedWrite,
 }
 
 /// The object of a key that has an entry.
@@ -37,7 +37,7 @@ pub fn find<'a>(objects: &'a Objects, key: &str) -> Option<&'a Object>
 
 /// Makes an entry for a key that has none. After `Memory` each object is as before.
 pub fn ensure(objects: &mut Objects, alloc: Global, key: &str) -> Result<(), Memory>
-    ensures same { Widens objects.old.entries objects.new.entries }
+    ensures same { AddsEmptyObjects objects.old.entries objects.new.entries }
     ensures there { OnOk result (has_key key.now objects.new.entries ≡ true) }
 {
     match find(objects, key) {
@@ -49,7 +49,7 @@ pub fn ensure(objects: &mut Objects, alloc: Global, key: &str) -> Result<(), Mem
 // Makes an entry for a key that has none. After `Memory` each object is as before.
 fn add(objects: &mut Objects, alloc: Global, key: &str) -> Result<(), Memory>
     requires { lookup (bytes_eq key.now) objects.old.entries ≡ None }
-    ensures same { Widens objects.old.entries objects.new.entries }
+    ensures same { AddsEmptyObjects objects.old.entries objects.new.entries }
     ensures there { OnOk result (has_key key.now objects.new.entries ≡ true) }
 {
     let key = Words::from_text(alloc, key)?;
@@ -59,7 +59,7 @@ fn add(objects: &mut Objects, alloc: Global, key: &str) -> Result<(), Memory>
 
 /// Makes an entry for each of the keys that has none. After `Memory` each object is as before.
 pub fn ensure_all(objects: &mut Objects, alloc: Global, keys: &[Words]) -> Result<(), Memory>
-    ensures same { Widens objects.old.entries objects.new.entries }
+    ensures same { AddsEmptyObjects objects.old.entries objects.new.entries }
     ensures there { OnOk result ((key : List ℕ) → has key keys.now ≡ true → has_key key objects.new.entries ≡ true) }
 {
     for key in keys {
@@ -69,9 +69,13 @@ pub fn ensure_all(objects: &mut Objects, alloc: Global, keys: &[Words]) -> Resul
 }
 
 /// Makes an entry for the object of each of the writes that has none. After `Memory` each object is as before.
-pub fn ensure_passed(objects: &mut Objects, alloc: Global, passed: &[Passed]) -> Result<(), Memory>
-    ensures same { Widens objects.old.entries objects.new.entries }
-    ensures there { OnOk result ((key : List ℕ) → has_passed key passed.now ≡ true → has_key key objects.new.entries ≡ true) }
+pub fn ensure_swept(
+    objects: &mut Objects,
+    alloc: Global,
+    passed: &[SweptWrite],
+) -> Result<(), Memory>
+    ensures same { AddsEmptyObjects objects.old.entries objects.new.entries }
+    ensures there { OnOk result ((key : List ℕ) → has_swept_write key passed.now ≡ true → has_key key objects.new.entries ≡ true) }
 {
     for write in passed {
         ensure(objects, alloc, write.key.as_str())?;
@@ -82,7 +86,7 @@ pub fn ensure_passed(objects: &mut Objects, alloc: Global, passed: &[Passed]) ->
 /// Raises the fence of an object that has an entry.
 pub fn raise(objects: &mut Objects, key: &str, at: Seqnum)
     requires { has_key key.now objects.old.entries ≡ true }
-    ensures { Changes key.now (raised_to at.0) objects.old.entries objects.new.entries }
+    ensures { ChangesObject key.now (raised_to at.0) objects.old.entries objects.new.entries }
 {
     if let Some(object) = objects.get_mut(Key { text: key }) {
         object.raise(at);
@@ -90,10 +94,10 @@ pub fn raise(objects: &mut Objects, key: &str, at: Seqnum)
 }
 
 /// Puts a version of an object in that has an entry. After `Memory` each object is as before.
-pub fn put(objects: &mut Objects, key: &str, version: Placed) -> Result<(), Memory>
+pub fn put(objects: &mut Objects, key: &str, version: PositionedWrite) -> Result<(), Memory>
     requires { has_key key.now objects.old.entries ≡ true }
-    ensures ok { Ascend (object_in key.now objects.old.entries).versions → OnOk result (Changes key.now (with_version version) objects.old.entries objects.new.entries) }
-    ensures err { OnErr result (Widens objects.old.entries objects.new.entries) }
+    ensures ok { Ascend (object_in key.now objects.old.entries).versions → OnOk result (ChangesObject key.now (with_version version) objects.old.entries objects.new.entries) }
+    ensures err { OnErr result (AddsEmptyObjects objects.old.entries objects.new.entries) }
 {
     if let Some(object) = objects.get_mut(Key { text: key }) {
         object.put(version)?;
@@ -102,9 +106,9 @@ pub fn put(objects: &mut Objects, key: &str, version: Placed) -> Result<(), Memo
 }
 
 /// Lifts the base of an object that has an entry to a logged write.
-pub fn lift(objects: &mut Objects, key: &str, write: Placed)
+pub fn lift(objects: &mut Objects, key: &str, write: PositionedWrite)
     requires { has_key key.now objects.old.entries ≡ true }
-    ensures { Changes key.now (λ o. record o { base = later write o.base }) objects.old.entries objects.new.entries }
+    ensures { ChangesObject key.now (λ o. record o { base = later_write write o.base }) objects.old.entries objects.new.entries }
 {
     if let Some(object) = objects.get_mut(Key { text: key }) {
         object.lift(write);
@@ -113,11 +117,11 @@ pub fn lift(objects: &mut Objects, key: &str, write: Placed)
 
 /// The objects of a store that has these initial objects, whose keys differ.
 pub fn initial(alloc: Global, values: &[(Words, Value)]) -> Result<Objects, Memory>
-    ensures { KeysDiffer values.now → IfOk result (λ m. Opens values.now m.entries) }
+    ensures { KeysDiffer values.now → IfOk result (λ m. HoldsInitialObjects values.now m.entries) }
 {
     let mut objects = IndexMap::new(alloc);
     for (key, value) in values {
-        objects.insert(key.clone()?, Object::initial(alloc, value)?)?;
+        drop(objects.insert(key.clone()?, Object::initial(alloc, value)?)?);
     }
     Ok(objects)
 }

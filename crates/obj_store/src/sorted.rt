@@ -10,11 +10,11 @@ use lb_base::{Memory, Words};
 use std::alloc::Global;
 use std::collections::BTreeMap;
 
-// Adds the key of the object at a place, where something is kept of it.
-fn add_key(sorted: &mut BTreeMap<Words, ()>, objects: &Objects, place: usize) -> Result<(), Memory>
-    ensures { OnOk result ((e : List ℕ × KeptObject) → slice_get objects.now.entries place ≡ Some e → sorted.new.entries ≡ with_key e sorted.old.entries) }
+// Adds the key of the object at a index, where something is kept of it.
+fn add_key(sorted: &mut BTreeMap<Words, ()>, objects: &Objects, index: usize) -> Result<(), Memory>
+    ensures { OnOk result ((e : List ℕ × KeptObject) → slice_get objects.now.entries index ≡ Some e → sorted.new.entries ≡ with_key e sorted.old.entries) }
 {
-    if let Some((key, object)) = objects.get_index(place) {
+    if let Some((key, object)) = objects.get_index(index) {
         if !object.is_empty() {
             sorted.insert(key.clone()?, ())?;
         }
@@ -27,8 +27,8 @@ fn sorted_keys(objects: &Objects, alloc: Global) -> Result<BTreeMap<Words, ()>, 
     ensures { IfOk result (λ s. s.entries ≡ with_keys objects.now.entries []) }
 {
     let mut sorted = BTreeMap::new(alloc);
-    for place in 0..objects.len() {
-        add_key(&mut sorted, objects, place)?;
+    for index in 0..objects.len() {
+        add_key(&mut sorted, objects, index)?;
     }
     Ok(sorted)
 }

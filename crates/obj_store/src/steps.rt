@@ -1,18 +1,18 @@
 //! The parts of the store's calls that look at its objects and names together.
 
 ghost use Rattle.std.specs.Prelude.{◌≡◌, ◌+◌, ◌-◌, ℕ, suc, List, true, false, cond, bytes_eq, nat_lt, option_map, option_copied, Some, None, IfOk, OnOk, OnErr};
-ghost use Rattle.boki_model.specs.Reads.{or_else};
-ghost use Rattle.boki_model.specs.Writes.{write_at, last_below, found};
-ghost use Rattle.obj_store.specs.Answers.{told};
+ghost use Rattle.std.specs.Option.{option_or};
+ghost use Rattle.boki_model.specs.Writes.{write_at, last_write_below, fenced_answer};
+ghost use Rattle.obj_store.specs.Answers.{logged_parts};
 ghost use Rattle.obj_store.specs.Ascending.{Ascend};
 ghost use Rattle.obj_store.specs.Kept.{KeptObject, object_in, total};
-ghost use Rattle.obj_store.specs.Steps.{Widens, Puts, value_upto, value_before, value_at_floor, value_of_last};
+ghost use Rattle.obj_store.specs.Steps.{AddsEmptyObjects, PutsVersion, value_upto, value_before, value_at_floor, value_of_last};
 
 use crate::answers::Logged;
 use crate::names::Names;
 use crate::object::Object;
 use crate::objects::Objects;
-use crate::writes::{Placed, later_value};
+use crate::writes::{PositionedWrite, later_value};
 use crate::{names, objects};
 use boki_types::Fenced;
 use lb_base::{Memory, Seqnum, Value};
@@ -27,18 +27,18 @@ pub fn put_in(
     k: u64,
     value: &Value,
 ) -> Result<(), Memory>
-    ensures ok { Ascend (object_in key.now objects.old.entries).versions → OnOk result (Puts key.now (write_at cursor.0 k value.now) objects.old.entries objects.new.entries) }
-    ensures err { OnErr result (Widens objects.old.entries objects.new.entries) }
+    ensures ok { Ascend (object_in key.now objects.old.entries).versions → OnOk result (PutsVersion key.now (write_at cursor.0 k value.now) objects.old.entries objects.new.entries) }
+    ensures err { OnErr result (AddsEmptyObjects objects.old.entries objects.new.entries) }
 {
     let value = value.clone()?;
     objects::ensure(objects, alloc, key)?;
-    objects::put(objects, key, Placed::new(cursor.0, k, value))?;
+    objects::put(objects, key, PositionedWrite::new(cursor.0, k, value))?;
     Ok(())
 }
 
 // The value of a logged write at or above the floor.
 fn logged_value<'a>(named: &'a Names, floor: Seqnum, logged: &Logged<'a>) -> Option<&'a Value>
-    ensures { option_copied result ≡ value_at_floor floor.0 named.now.entries (told logged.now) }
+    ensures { option_copied result ≡ value_at_floor floor.0 named.now.entries (logged_parts logged.now) }
 {
     if logged.seq < floor {
         return None;
@@ -50,8 +50,8 @@ fn logged_value<'a>(named: &'a Names, floor: Seqnum, logged: &Logged<'a>) -> Opt
 }
 
 // The last write that is kept of an object whose first number is at most `last`.
-fn kept_upto<'a>(objects: &'a Objects, key: &str, last: u64) -> Option<&'a Placed>
-    ensures { Ascend (object_in key.now objects.now.entries).versions → option_copied result ≡ or_else (last_below (suc last) 0 (object_in key.now objects.now.entries).versions) (object_in key.now objects.now.entries).base }
+fn kept_upto<'a>(objects: &'a Objects, key: &str, last: u64) -> Option<&'a PositionedWrite>
+    ensures { Ascend (object_in key.now objects.now.entries).versions → option_copied result ≡ option_or (last_write_below (suc last) 0 (object_in key.now objects.now.entries).versions) (object_in key.now objects.now.entries).base }
 {
     match objects::find(objects, key) {
         Some(object) => object.last_upto(last),
@@ -61,7 +61,7 @@ fn kept_upto<'a>(objects: &'a Objects, key: &str, last: u64) -> Option<&'a Place
 
 // The value of the last of a write that is kept and a logged one.
 fn last_of<'a>(
-    kept: Option<&'a Placed>,
+    kept: Option<&'a PositionedWrite>,
     seq: Seqnum,
     logged: Option<&'a Value>,
 ) -> Option<&'a Value>
@@ -84,7 +84,7 @@ pub fn last_upto<'a>(
     last: u64,
     logged: Option<&Logged<'a>>,
 ) -> Option<&'a Value>
-    ensures { Ascend (object_in key.now objects.now.entries).versions → option_copied result ≡ value_upto floor.0 last (object_in key.now objects.now.entries) named.now.entries (option_map told (option_copied logged.entry)) }
+    ensures { Ascend (object_in key.now objects.now.entries).versions → option_copied result ≡ value_upto floor.0 last (object_in key.now objects.now.entries) named.now.entries (option_map logged_parts (option_copied logged.entry)) }
 {
     let kept = kept_upto(objects, key, last);
     match logged {
@@ -95,12 +95,12 @@ pub fn last_upto<'a>(
 
 // A copy of the value of the last of a write that is kept and a logged one, which counts where it isn't below the floor.
 fn copy_last(
-    kept: Option<&Placed>,
+    kept: Option<&PositionedWrite>,
     floor: Seqnum,
     seq: Seqnum,
     logged: Option<&Value>,
 ) -> Result<Fenced, Memory>
-    ensures { IfOk result (λ a. a ≡ found (value_of_last (option_copied kept.entry) seq.0 (cond (nat_lt seq.0 floor.0) None (option_copied logged.entry)))) }
+    ensures { IfOk result (λ a. a ≡ fenced_answer (value_of_last (option_copied kept.entry) seq.0 (cond (nat_lt seq.0 floor.0) None (option_copied logged.entry)))) }
 {
     match (kept, logged) {
         (Some(write), Some(value)) if seq >= floor => Ok(Fenced::Found(later_value(
@@ -122,7 +122,7 @@ pub fn copy_before(
     at: Seqnum,
     logged: Option<&Logged<'_>>,
 ) -> Result<Fenced, Memory>
-    ensures { Ascend (object_in key.now objects.now.entries).versions → IfOk result (λ a. a ≡ value_before floor.0 at.0 (object_in key.now objects.now.entries) named.now.entries (option_map told (option_copied logged.entry))) }
+    ensures { Ascend (object_in key.now objects.now.entries).versions → IfOk result (λ a. a ≡ value_before floor.0 at.0 (object_in key.now objects.now.entries) named.now.entries (option_map logged_parts (option_copied logged.entry))) }
 {
     if at.0 == 0 {
         return Ok(Fenced::Missing);

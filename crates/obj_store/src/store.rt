@@ -6,14 +6,14 @@ ghost use Rattle.boki_model.specs.Live.{Live};
 ghost use Rattle.boki_model.specs.LogLaws.{FallBelow};
 ghost use Rattle.boki_model.specs.Writes as model;
 ghost use Rattle.boki_model.specs.Writes.{Store};
-ghost use Rattle.obj_store.specs.Answers.{IsTold, shown};
+ghost use Rattle.obj_store.specs.Answers.{IsLastLogged, fenced_of};
 ghost use Rattle.obj_store.specs.Keys.{keys_in};
 ghost use Rattle.obj_store.specs.StandsFor.{StandsFor, IsUnchanged, KeysDiffer};
 ghost use Rattle.obj_store.specs.Sweeps.{AllHaveValues, logged_between};
 
 use crate::answers::{Logged, Read};
 use crate::names::Names;
-use crate::object::{Case, standing};
+use crate::object::{VersionStatus, version_status};
 use crate::objects::Objects;
 use crate::{every, names, objects, sorted, steps};
 use boki_types::{Fenced, Name, Named, Put, Settled};
@@ -39,9 +39,9 @@ pub struct ObjStore {
 }
 
 impl Model for ObjStore {
-    ghost use Rattle.obj_store.specs.Kept.{Kept};
+    ghost use Rattle.obj_store.specs.Kept.{StoreState};
 
-    ghost Value = { Kept };
+    ghost Value = { StoreState };
 
     ghost view = { λ s. record { objects = s.objects.entries; named = s.named.entries; floor = s.floor.0; held = s.held } };
 }
@@ -50,7 +50,7 @@ impl ObjStore {
     /// The store of these initial objects, whose keys differ, with nothing stored under a name and the floor 0; or `Memory`.
     pub fn new(alloc: Global, objects: &[(Words, Value)]) -> Result<ObjStore, Memory>
         requires { KeysDiffer objects.now }
-        ensures { IfOk result (λ s. (end : ℕ) (records : List (Live Body)) → FallBelow end records → StandsFor s (model.opening_store objects.now) records) }
+        ensures { IfOk result (λ s. (end : ℕ) (records : List (Live Body)) → FallBelow end records → StandsFor s (model.initial_store objects.now) records) }
     {
         Ok(ObjStore {
             alloc,
@@ -66,7 +66,7 @@ impl ObjStore {
     ///
     /// After `Memory` the store is unchanged. A name that is there, and Gone, take no memory.
     pub fn put_named(&mut self, name: Name, cursor: Seqnum, value: &Value) -> Result<Named, Memory>
-        ensures ok { IfOk result (λ a. (m : Store) (records : List (Live Body)) → StandsFor self.old m records → (model.is_settled name m.floor records ≡ true → cursor.0 < m.floor) → (a ≡ model.named_put name cursor.0 value.now m) × StandsFor self.new (model.after_named name cursor.0 value.now m) records) }
+        ensures ok { IfOk result (λ a. (m : Store) (records : List (Live Body)) → StandsFor self.old m records → (model.is_settled name m.floor records ≡ true → cursor.0 < m.floor) → (a ≡ model.put_named name cursor.0 value.now m) × StandsFor self.new (model.after_put_named name cursor.0 value.now m) records) }
         ensures err { OnErr result (IsUnchanged self.old self.new) }
     {
         if cursor.0 < self.floor.0 {
@@ -96,15 +96,15 @@ impl ObjStore {
         requires { 1 ≤ k }
         ensures ok { IfOk result (λ a. (m : Store) (records : List (Live Body)) → StandsFor self.old m records → (a ≡ model.put_at key.now cursor.0 k m) × StandsFor self.new (model.after_put key.now cursor.0 k value.now m) records) }
         ensures err { OnErr result (IsUnchanged self.old self.new) }
-        ensures no_memory { (m : Store) (records : List (Live Body)) → StandsFor self.old m records → model.puts_in key.now cursor.0 k m ≡ false → IsOk result }
+        ensures no_memory { (m : Store) (records : List (Live Body)) → StandsFor self.old m records → model.puts_version key.now cursor.0 k m ≡ false → IsOk result }
     {
         if cursor.0 < self.floor.0 {
             return Ok(Put::Gone);
         }
-        match standing(objects::find(&self.objects, key), cursor, k) {
-            Case::There => Ok(Put::Done),
-            Case::Fenced => Ok(Put::Late),
-            Case::Free => {
+        match version_status(objects::find(&self.objects, key), cursor, k) {
+            VersionStatus::Present => Ok(Put::Done),
+            VersionStatus::BelowFence => Ok(Put::Late),
+            VersionStatus::Insertable => {
                 let held = self.held.checked_add(1).ok_or(Memory)?;
                 steps::put_in(&mut self.objects, self.alloc, key, cursor, k, value)?;
                 self.held = held;
@@ -123,7 +123,7 @@ impl ObjStore {
         cursor: Seqnum,
         logged: Option<&Logged<'a>>,
     ) -> Read<'a>
-        ensures read { (m : Store) (records : List (Live Body)) → StandsFor self.now m records → IsTold key.now (suc cursor.0) self.now records (option_copied logged.entry) → shown result ≡ model.read_free key.now cursor.0 m records }
+        ensures read { (m : Store) (records : List (Live Body)) → StandsFor self.now m records → IsLastLogged key.now (suc cursor.0) self.now records (option_copied logged.entry) → fenced_of result ≡ model.read_free key.now cursor.0 m records }
         ensures gone { cursor.0 < self.now.floor → result ≡ Read.Gone }
     {
         if cursor.0 < self.floor.0 {
@@ -154,7 +154,7 @@ impl ObjStore {
         at: Seqnum,
         logged: Option<&Logged<'_>>,
     ) -> Result<Fenced, Memory>
-        ensures ok { IfOk result (λ a. (m : Store) (records : List (Live Body)) → StandsFor self.old m records → IsTold key.now at.0 self.old records (option_copied logged.entry) → (a ≡ model.read_fenced key.now at.0 m records) × StandsFor self.new (model.after_fenced (key.now ∷ []) at.0 m) records) }
+        ensures ok { IfOk result (λ a. (m : Store) (records : List (Live Body)) → StandsFor self.old m records → IsLastLogged key.now at.0 self.old records (option_copied logged.entry) → (a ≡ model.read_fenced key.now at.0 m records) × StandsFor self.new (model.after_read_fenced (key.now ∷ []) at.0 m) records) }
         ensures err { OnErr result (IsUnchanged self.old self.new) }
     {
         if at.0 < self.floor.0 {
@@ -169,7 +169,7 @@ impl ObjStore {
     /// Raises the fence of each of the objects to at least `at`, all of them or none. False comes exactly where `at` is below the
     /// floor; then nothing is changed. After `Memory` the store is unchanged.
     pub fn raise_group(&mut self, keys: &[Words], at: Seqnum) -> Result<bool, Memory>
-        ensures ok { IfOk result (λ a. (m : Store) (records : List (Live Body)) → StandsFor self.old m records → (a ≡ not (nat_lt at.0 m.floor)) × StandsFor self.new (model.after_fenced keys.now at.0 m) records) }
+        ensures ok { IfOk result (λ a. (m : Store) (records : List (Live Body)) → StandsFor self.old m records → (a ≡ not (nat_lt at.0 m.floor)) × StandsFor self.new (model.after_read_fenced keys.now at.0 m) records) }
         ensures err { OnErr result (IsUnchanged self.old self.new) }
     {
         if at.0 < self.floor.0 {
@@ -186,16 +186,16 @@ impl ObjStore {
     /// It needs all live logged writes from the old floor up to below the new one, from the oldest on, each with its value: that of
     /// its record, or else the one that is kept under its name. After `Memory` the store is unchanged.
     pub fn sweep(&mut self, floor: Seqnum, settled: &[Settled]) -> Result<(), Memory>
-        ensures ok { OnOk result ((m : Store) (records : List (Live Body)) → StandsFor self.old m records → settled.now ≡ logged_between m.floor floor.0 records → AllHaveValues self.old.named settled.now → StandsFor self.new (model.swept floor.0 m) records) }
+        ensures ok { OnOk result ((m : Store) (records : List (Live Body)) → StandsFor self.old m records → settled.now ≡ logged_between m.floor floor.0 records → AllHaveValues self.old.named settled.now → StandsFor self.new (model.after_sweep floor.0 m) records) }
         ensures err { OnErr result (IsUnchanged self.old self.new) }
     {
         if floor.0 <= self.floor.0 {
             return Ok(());
         }
         self.held.checked_add(settled.len() as u64).ok_or(Memory)?;
-        let passed = names::copy_all_passed(&self.named, self.alloc, settled)?;
-        objects::ensure_passed(&mut self.objects, self.alloc, passed.as_slice())?;
-        every::settle_all(&mut self.objects, floor);
+        let passed = names::copy_swept_writes(&self.named, self.alloc, settled)?;
+        objects::ensure_swept(&mut self.objects, self.alloc, passed.as_slice())?;
+        every::sweep_objects(&mut self.objects, floor);
         every::lift_all(&mut self.objects, passed);
         names::remove_all(&mut self.named, settled);
         self.floor = floor;
@@ -223,7 +223,7 @@ impl ObjStore {
     /// How many values are kept: the objects with an initial object or a write below the floor, the versions at or above the floor,
     /// and the values under names, together. It takes no memory.
     pub fn held(&self) -> u64
-        ensures { (m : Store) (records : List (Live Body)) → StandsFor self.now m records → result ≡ model.held m records }
+        ensures { (m : Store) (records : List (Live Body)) → StandsFor self.now m records → result ≡ model.held_count m records }
     {
         self.held
     }

@@ -8,7 +8,7 @@ use Rattle.lb_base.specs.declared.value.Value.{Value}
 use Rattle.boki_types.specs.declared.kind.Kind.{Kind}
 use Rattle.boki_types.specs.declared.kind.Kind.TheVariants as kind
 use Rattle.script_lang.specs.Names.{is_among}
-use Rattle.script_lang.proofs.PrintLemmas.{drop_at}
+use Rattle.line_text.proofs.ListLemmas.{drop_at}
 use Rattle.plan_lang.specs.Heads.{objects_fault}
 
 -- the names of the objects before a place

@@ -18,16 +18,16 @@ use Rattle.boki_types.specs.declared.event.Event.TheVariants as e
 use Rattle.boki_types.specs.declared.program.Function.{Function}
 use Rattle.boki_types.specs.declared.turn.Turn.{Turn}
 use Rattle.boki_types.specs.declared.turn.Turn.TheVariants as u
-use Rattle.boki_model.specs.Bodies.{is_letter as letter, is_digit as digit, is_word_text, is_identifier, reserved}
-use Rattle.boki_model.specs.Plans.{names}
-use Rattle.script_lang.specs.Printed.{behind_comma, listed}
-use Rattle.script_lang.proofs.RelexedLines.{no_feed, feed_append, feed_quoted}
-use Rattle.plan_lang.specs.Printed.{name_at, call_text, behind_tag, tags_text, one_text, pair_text, triple_text, newer_text, event_text, turn_text}
+use Rattle.boki_model.specs.Bodies.{is_letter as letter, is_digit as digit, has_identifier_characters, is_identifier, reserved_words}
+use Rattle.boki_model.specs.Plans.{function_names}
+use Rattle.script_lang.specs.Printed.{each_behind_comma, comma_joined}
+use Rattle.script_lang.proofs.StmtTextLexes.{no_feed, feed_append, feed_quoted}
+use Rattle.plan_lang.specs.Printed.{function_name_at, call_text, behind_tag, tags_text, one_number_text, two_number_text, three_number_text, newer_text, event_text, turn_text}
 use Rattle.plan_lang.proofs.CleanEvents.{is_clean_event}
 use Rattle.plan_lang.proofs.CleanReads.{is_clean_value, are_clean_values}
 use Rattle.plan_lang.proofs.CleanTurns.{is_clean_turn}
-use Rattle.plan_lang.proofs.GoodFields.{both_true, split_true}
-use Rattle.plan_lang.proofs.Utf8Tokens.{is_clean_text}
+use Rattle.line_text.proofs.FieldsInRange.{both_true, split_true}
+use Rattle.line_text.proofs.Utf8Tokens.{is_clean_text}
 
 -- ASCII without line feeds
 abbrev pub is_plain : ℕ → Bool
@@ -77,8 +77,8 @@ or_left a b h = rw h refl
 pub plain_name : (w : List ℕ) → is_identifier w ≡ true → plain w ≡ true
 plain_name [] h = refl
 plain_name (c ∷ cs) h =
-    let k = split_true (is_word_text (c ∷ cs) && leb (length (c ∷ cs)) 32) (not (list_any (bytes_eq (c ∷ cs)) reserved)) h in
-    let i = split_true (is_word_text (c ∷ cs)) (leb (length (c ∷ cs)) 32) k.0 in
+    let k = split_true (has_identifier_characters (c ∷ cs) && leb (length (c ∷ cs)) 32) (not (list_any (bytes_eq (c ∷ cs)) reserved_words)) h in
+    let i = split_true (has_identifier_characters (c ∷ cs)) (leb (length (c ∷ cs)) 32) k.0 in
     let j = split_true (letter c) (list_all (λ d. letter d || digit d) cs) i.0 in
     both_true (is_plain c) (plain cs) (plain_letter c (or_left (letter c) (digit c) j.0)) (plain_word cs j.1)
 
@@ -129,14 +129,14 @@ abbrev pub AllInline : {A : Type 0} → (A → List ℕ) → List A → Type 0
 AllInline print [] = Unit {0}
 AllInline print (x ∷ xs) = Inline (print x) × AllInline print xs
 
-more_inline : {A : Type 0} (print : A → List ℕ) (xs : List A) → AllInline print xs → Inline (behind_comma print xs)
+more_inline : {A : Type 0} (print : A → List ℕ) (xs : List A) → AllInline print xs → Inline (each_behind_comma print xs)
 more_inline print [] h = plain_inline [] refl
 more_inline print (x ∷ xs) h =
-    front (codes ", ") (print x ++ behind_comma print xs) refl (joined (print x) (behind_comma print xs) h.0 (more_inline print xs h.1))
+    front (codes ", ") (print x ++ each_behind_comma print xs) refl (joined (print x) (each_behind_comma print xs) h.0 (more_inline print xs h.1))
 
-pub listed_inline : {A : Type 0} (print : A → List ℕ) (xs : List A) → AllInline print xs → Inline (listed print xs)
+pub listed_inline : {A : Type 0} (print : A → List ℕ) (xs : List A) → AllInline print xs → Inline (comma_joined print xs)
 listed_inline print [] h = plain_inline [] refl
-listed_inline print (x ∷ xs) h = joined (print x) (behind_comma print xs) h.0 (more_inline print xs h.1)
+listed_inline print (x ∷ xs) h = joined (print x) (each_behind_comma print xs) h.0 (more_inline print xs h.1)
 
 -- Values and calls.
 pub value_inline : (x : Value) → is_clean_value x ≡ true → Inline (value_text x)
@@ -148,16 +148,16 @@ values_inline : (xs : List Value) → are_clean_values xs ≡ true → AllInline
 values_inline [] h = tt
 values_inline (x ∷ xs) h = let s = split_true (is_clean_value x) (are_clean_values xs) h in (value_inline x s.0, values_inline xs s.1)
 
-named_plain : (fs : List Function) (f : ℕ) → list_all is_identifier (names fs) ≡ true → plain (name_at fs f) ≡ true
+named_plain : (fs : List Function) (f : ℕ) → list_all is_identifier (function_names fs) ≡ true → plain (function_name_at fs f) ≡ true
 named_plain [] f h = refl
-named_plain (g ∷ fs) zero h = plain_name g.name ((split_true (is_identifier g.name) (list_all is_identifier (names fs)) h).0)
-named_plain (g ∷ fs) (suc f) h = named_plain fs f ((split_true (is_identifier g.name) (list_all is_identifier (names fs)) h).1)
+named_plain (g ∷ fs) zero h = plain_name g.name ((split_true (is_identifier g.name) (list_all is_identifier (function_names fs)) h).0)
+named_plain (g ∷ fs) (suc f) h = named_plain fs f ((split_true (is_identifier g.name) (list_all is_identifier (function_names fs)) h).1)
 
-call_inline : (fs : List Function) (f : ℕ) (args : List Value) → list_all is_identifier (names fs) ≡ true → are_clean_values args ≡ true → Inline (call_text fs f args)
+call_inline : (fs : List Function) (f : ℕ) (args : List Value) → list_all is_identifier (function_names fs) ≡ true → are_clean_values args ≡ true → Inline (call_text fs f args)
 call_inline fs f args h g =
-    joined (name_at fs f) (codes "(" ++ (listed value_text args ++ codes ")")) (plain_inline (name_at fs f) (named_plain fs f h))
-    (joined (codes "(") (listed value_text args ++ codes ")") (plain_inline (codes "(") refl)
-    (joined (listed value_text args) (codes ")") (listed_inline value_text args (values_inline args g)) (plain_inline (codes ")") refl)))
+    joined (function_name_at fs f) (codes "(" ++ (comma_joined value_text args ++ codes ")")) (plain_inline (function_name_at fs f) (named_plain fs f h))
+    (joined (codes "(") (comma_joined value_text args ++ codes ")") (plain_inline (codes "(") refl)
+    (joined (comma_joined value_text args) (codes ")") (listed_inline value_text args (values_inline args g)) (plain_inline (codes ")") refl)))
 
 tags_more : (tags : List Tag) → plain (flat_map behind_tag tags) ≡ true
 tags_more [] = refl
@@ -183,16 +183,16 @@ mode_plain mode.T = refl
 two_plain : (a b : List ℕ) → plain a ≡ true → plain b ≡ true → plain (a ++ (32 ∷ b)) ≡ true
 two_plain a b h k = plain_append a (32 ∷ b) h k
 
-one_plain : (word : List ℕ) (n : ℕ) → plain word ≡ true → Inline (one_text word n)
-one_plain word n h = plain_inline (one_text word n) (plain_append word (decimal n) h (plain_decimal n))
+one_plain : (word : List ℕ) (n : ℕ) → plain word ≡ true → Inline (one_number_text word n)
+one_plain word n h = plain_inline (one_number_text word n) (plain_append word (decimal n) h (plain_decimal n))
 
-pair_plain : (word : List ℕ) (n m : ℕ) → plain word ≡ true → Inline (pair_text word n m)
+pair_plain : (word : List ℕ) (n m : ℕ) → plain word ≡ true → Inline (two_number_text word n m)
 pair_plain word n m h =
-    plain_inline (pair_text word n m) (plain_append word (decimal n ++ (32 ∷ decimal m)) h (two_plain (decimal n) (decimal m) (plain_decimal n) (plain_decimal m)))
+    plain_inline (two_number_text word n m) (plain_append word (decimal n ++ (32 ∷ decimal m)) h (two_plain (decimal n) (decimal m) (plain_decimal n) (plain_decimal m)))
 
-triple_plain : (word : List ℕ) (n m o : ℕ) → plain word ≡ true → Inline (triple_text word n m o)
+triple_plain : (word : List ℕ) (n m o : ℕ) → plain word ≡ true → Inline (three_number_text word n m o)
 triple_plain word n m o h =
-    plain_inline (triple_text word n m o) (plain_append word (decimal n ++ (32 ∷ (decimal m ++ (32 ∷ decimal o)))) h
+    plain_inline (three_number_text word n m o) (plain_append word (decimal n ++ (32 ∷ (decimal m ++ (32 ∷ decimal o)))) h
     (two_plain (decimal n) (decimal m ++ (32 ∷ decimal o)) (plain_decimal n) (two_plain (decimal m) (decimal o) (plain_decimal m) (plain_decimal o))))
 
 pub newer_plain : (n : Option ℕ) → plain (newer_text n) ≡ true
@@ -207,7 +207,7 @@ tagged : (tags : List Tag) (text : List ℕ) → is_clean_text text ≡ true →
 tagged tags text h = front (tags_text tags) (codes " " ++ quoted text) (tags_plain tags) (front (codes " ") (quoted text) refl (quote_inline text h))
 
 -- Events and turns.
-pub event_inline : (fs : List Function) (x : Event) → list_all is_identifier (names fs) ≡ true → is_clean_event x ≡ true → Inline (event_text fs x)
+pub event_inline : (fs : List Function) (x : Event) → list_all is_identifier (function_names fs) ≡ true → is_clean_event x ≡ true → Inline (event_text fs x)
 event_inline fs (e.Submit n q f args) i h =
     front (codes "submit ") _ refl (numbered n _ (numbered q (call_text fs f args) (call_inline fs f args i h)))
 event_inline fs (e.Copy shard replica n) i h = triple_plain (codes "copy ") shard replica n refl
@@ -238,7 +238,7 @@ event_inline fs (e.SetAux n o text) i h = front (codes "setaux ") _ refl (number
 event_inline fs (e.GetAux n o) i h = pair_plain (codes "getaux ") n o.0 refl
 event_inline fs (e.Seed n) i h = one_plain (codes "seed ") n refl
 
-pub turn_inline : (fs : List Function) (x : Turn) → list_all is_identifier (names fs) ≡ true → is_clean_turn x ≡ true → Inline (turn_text fs x)
+pub turn_inline : (fs : List Function) (x : Turn) → list_all is_identifier (function_names fs) ≡ true → is_clean_turn x ≡ true → Inline (turn_text fs x)
 turn_inline fs (u.Submit q f args) i h = front (codes "turn submit ") _ refl (numbered q (call_text fs f args) (call_inline fs f args i h))
 turn_inline fs (u.Go path n) i h =
     front (codes "turn go ") _ refl (plain_inline (path_text path ++ (codes " " ++ decimal n)) (two_plain (path_text path) (decimal n) (path_plain path) (plain_decimal n)))

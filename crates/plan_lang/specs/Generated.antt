@@ -18,13 +18,13 @@ use Rattle.boki_types.specs.declared.program.Stmt.TheVariants as s
 abbrev pub account : ℕ → List ℕ
 account digit = codes "a" ++ decimal digit
 
-abbrev pub rich : ℕ → List ℕ × Value
-rich digit = (account digit, Int (pos 1000))
+abbrev pub account_entry : ℕ → List ℕ × Value
+account_entry digit = (account digit, Int (pos 1000))
 
 -- the first so many accounts, of 1000 each
 abbrev pub accounts : ℕ → List (List ℕ × Value)
 accounts zero = []
-accounts (suc n) = accounts n ++ rich n ∷ []
+accounts (suc n) = accounts n ++ account_entry n ∷ []
 
 -- function move(a, b, n)
 --   let x = read a
@@ -46,14 +46,14 @@ abbrev pub move : Function
 move = record { name = codes "move"; params = codes "a" ∷ codes "b" ∷ codes "n" ∷ []; lines = move_lines }
 
 -- transfer i: between which accounts, and how much
-abbrev pub giver : ℕ → ℕ
-giver i = i % 10
+abbrev pub source_digit : ℕ → ℕ
+source_digit i = i % 10
 
-abbrev pub taker : ℕ → ℕ
-taker i = (giver i + 1 + (i / 10) % 9) % 10
+abbrev pub target_digit : ℕ → ℕ
+target_digit i = (source_digit i + 1 + (i / 10) % 9) % 10
 
 abbrev pub move_args : ℕ → List Value
-move_args i = Text (account (giver i)) ∷ Text (account (taker i)) ∷ Int (pos (i % 7)) ∷ []
+move_args i = Text (account (source_digit i)) ∷ Text (account (target_digit i)) ∷ Int (pos (i % 7)) ∷ []
 
 -- the four items of transfer i, on engine i % 4 + 1
 abbrev pub move_items : ℕ → List Item

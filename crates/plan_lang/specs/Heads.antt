@@ -6,146 +6,147 @@ use Rattle.lb_base.specs.declared.value.Value.{Value}
 use Rattle.boki_types.specs.declared.kind.Kind.{Kind}
 use Rattle.boki_types.specs.declared.kind.Kind.TheVariants as kind
 use Rattle.boki_types.specs.declared.plan.Setup.{Setup}
-use Rattle.boki_model.specs.Plans.{from_to, is_newer}
+use Rattle.boki_model.specs.Plans.{in_bounds, is_optional_engine}
 use Rattle.script_lang.specs.declared.draft.Draft.{Draft}
-use Rattle.script_lang.specs.declared.rated.Rated.{Rated}
-use Rattle.script_lang.specs.declared.rated.Rated.TheVariants as r
-use Rattle.script_lang.specs.declared.token.Key.TheVariants as k
-use Rattle.script_lang.specs.declared.token.Token.{Token}
-use Rattle.script_lang.specs.declared.token.Token.TheVariants as t
-use Rattle.script_lang.specs.Functions.{draft_line, no_draft, is_inside}
+use Rattle.line_text.specs.declared.checked.Checked.{Checked}
+use Rattle.line_text.specs.declared.checked.Checked.TheVariants as r
+use Rattle.line_text.specs.declared.token.Keyword.TheVariants as k
+use Rattle.line_text.specs.declared.token.Token.{Token}
+use Rattle.line_text.specs.declared.token.Token.TheVariants as t
+use Rattle.script_lang.specs.Functions.{draft_line, empty_draft, is_in_function}
 use Rattle.script_lang.specs.Names.{is_among}
-use Rattle.script_lang.specs.Statements.{◌>>=◌, both, map_rated, fine_if, alone, text_at, value_at}
+use Rattle.line_text.specs.Readers.{◌>>=◌, if_at_end, text_at, value_at}
+use Rattle.line_text.specs.Checks.{both_checked, map_checked, checked_if}
 use Rattle.plan_lang.specs.declared.heads.Head.{Head}
-use Rattle.plan_lang.specs.declared.heads.Due.{Due}
-use Rattle.plan_lang.specs.declared.heads.Due.TheVariants as due
-use Rattle.plan_lang.specs.declared.heads.Lead.{Lead}
-use Rattle.plan_lang.specs.declared.heads.Lead.TheVariants as lead
-use Rattle.plan_lang.specs.Fields.{number_at, mode_at}
+use Rattle.plan_lang.specs.declared.heads.Expected.{Expected}
+use Rattle.plan_lang.specs.declared.heads.Expected.TheVariants as expected
+use Rattle.plan_lang.specs.declared.heads.HeadWord.{HeadWord}
+use Rattle.plan_lang.specs.declared.heads.HeadWord.TheVariants as head_word
+use Rattle.line_text.specs.Fields.{number_at, mode_at}
 
 -- The setup: `setup S R E M`, or `setup S R E M F`.
 
 -- the fifth number, where there is one
-abbrev pub newer_of : List Token → Option (Rated (Option ℕ))
-newer_of [] = Some (r.Fine None)
+abbrev pub newer_of : List Token → Option (Checked (Option ℕ))
+newer_of [] = Some (r.Valid None)
 newer_of (x ∷ ts) = do
   n ← number_at 1 16 (x ∷ ts)
-  alone n.1 (map_rated (λ k. Some k) n.0)
+  if_at_end n.1 (map_checked (λ k. Some k) n.0)
 
-abbrev pub checked : {A B : Type 0} → (A → Rated B) → Rated A → Rated B
-checked f (r.Fine a) = f a
-checked f r.Wide = r.Wide
-checked f r.Deep = r.Deep
+abbrev pub check_then : {A B : Type 0} → (A → Checked B) → Checked A → Checked B
+check_then f (r.Valid a) = f a
+check_then f r.OutOfRange = r.OutOfRange
+check_then f r.TooDeep = r.TooDeep
 
-abbrev pub setup_made : Mode → ((ℕ × ℕ) × ℕ) × Option ℕ → Rated Setup
-setup_made m p =
-    fine_if (is_newer p.0.1 p.1) (record { shards = p.0.0.0; replicas = p.0.0.1; engines = p.0.1; mode = m; newer = p.1 })
+abbrev pub make_checked_setup : Mode → ((ℕ × ℕ) × ℕ) × Option ℕ → Checked Setup
+make_checked_setup m p =
+    checked_if (is_optional_engine p.0.1 p.1) (record { shards = p.0.0.0; replicas = p.0.0.1; engines = p.0.1; mode = m; newer = p.1 })
 
 -- behind the word
-abbrev pub setup_behind : List Token → Option (Rated Setup)
+abbrev pub setup_behind : List Token → Option (Checked Setup)
 setup_behind ts = do
   shards ← number_at 1 16 ts
   replicas ← number_at 1 5 shards.1
   engines ← number_at 1 16 replicas.1
   m ← mode_at engines.1
   newer ← newer_of m.1
-  Some (checked (setup_made m.0) (both (both (both shards.0 replicas.0) engines.0) newer))
+  Some (check_then (make_checked_setup m.0) (both_checked (both_checked (both_checked shards.0 replicas.0) engines.0) newer))
 
-abbrev pub setup_of : List Token → Option (Rated Setup)
+abbrev pub setup_of : List Token → Option (Checked Setup)
 setup_of (t.Name x ∷ ts) = if bytes_eq x (codes "setup") then setup_behind ts else None
 setup_of _ = None
 
 -- An object, behind its word: a quoted text of 1 to 64 bytes, and a value.
-abbrev pub object_of : List Token → Option (Rated (List ℕ × Value))
+abbrev pub object_of : List Token → Option (Checked (List ℕ × Value))
 object_of ts = do
   name ← text_at ts
   value ← value_at name.1
-  alone value.1 (both (fine_if (from_to 1 64 (length name.0)) name.0) value.0)
+  if_at_end value.1 (both_checked (checked_if (in_bounds 1 64 (length name.0)) name.0) value.0)
 
 -- what a line of the head begins with; `close` is the word that ends the head
-abbrev pub lead_by : List ℕ → List ℕ → Lead
-lead_by close x = if bytes_eq x (codes "object") then lead.Object else if bytes_eq x close then lead.Close else lead.Other
+abbrev pub head_word_by : List ℕ → List ℕ → HeadWord
+head_word_by close x = if bytes_eq x (codes "object") then head_word.Object else if bytes_eq x close then head_word.Close else head_word.Other
 
-abbrev pub lead_of : List ℕ → List Token → Lead
-lead_of close (t.Key k.Function ∷ ts) = lead.Function
-lead_of close (t.Name x ∷ ts) = lead_by close x
-lead_of close _ = lead.Other
+abbrev pub head_word_of : List ℕ → List Token → HeadWord
+head_word_of close (t.Keyword k.Function ∷ ts) = head_word.Function
+head_word_of close (t.Name x ∷ ts) = head_word_by close x
+head_word_of close _ = head_word.Other
 
 -- with the tokens behind that word; the head of a function is kept whole
-abbrev pub lead_rest : Lead → List Token → Lead × List Token
-lead_rest lead.Function ts = (lead.Function, ts)
-lead_rest lead.Object ts = (lead.Object, drop 1 ts)
-lead_rest lead.Close ts = (lead.Close, drop 1 ts)
-lead_rest lead.Other ts = (lead.Other, drop 1 ts)
+abbrev pub with_word_taken : HeadWord → List Token → HeadWord × List Token
+with_word_taken head_word.Function ts = (head_word.Function, ts)
+with_word_taken head_word.Object ts = (head_word.Object, drop 1 ts)
+with_word_taken head_word.Close ts = (head_word.Close, drop 1 ts)
+with_word_taken head_word.Other ts = (head_word.Other, drop 1 ts)
 
-abbrev pub lead_at : List ℕ → List Token → Lead × List Token
-lead_at close ts = lead_rest (lead_of close ts) ts
+abbrev pub head_word_at : List ℕ → List Token → HeadWord × List Token
+head_word_at close ts = with_word_taken (head_word_of close ts) ts
 
 -- the head with what a line gives
-abbrev pub with_setup : Head → Option (Rated Setup) → Result Head Kind
+abbrev pub with_setup : Head → Option (Checked Setup) → Result Head Kind
 with_setup h None = Err kind.Syntax
-with_setup h (Some r.Wide) = Err kind.Range
-with_setup h (Some r.Deep) = Err kind.Deep
-with_setup h (Some (r.Fine setup)) = Ok (record h { due = due.Objects; setup = setup })
+with_setup h (Some r.OutOfRange) = Err kind.Range
+with_setup h (Some r.TooDeep) = Err kind.Deep
+with_setup h (Some (r.Valid setup)) = Ok (record h { expected = expected.Objects; setup = setup })
 
-abbrev pub with_object : ℕ → Head → Option (Rated (List ℕ × Value)) → Result Head Kind
+abbrev pub with_object : ℕ → Head → Option (Checked (List ℕ × Value)) → Result Head Kind
 with_object n h None = Err kind.Syntax
-with_object n h (Some r.Wide) = Err kind.Range
-with_object n h (Some r.Deep) = Err kind.Deep
-with_object n h (Some (r.Fine object)) = Ok (record h { objects = h.objects ++ object ∷ []; lines = h.lines ++ n ∷ [] })
+with_object n h (Some r.OutOfRange) = Err kind.Range
+with_object n h (Some r.TooDeep) = Err kind.Deep
+with_object n h (Some (r.Valid object)) = Ok (record h { objects = h.objects ++ object ∷ []; lines = h.lines ++ n ∷ [] })
 
 abbrev pub with_draft : Head → Result Draft Kind → Result Head Kind
 with_draft h (Err e) = Err e
-with_draft h (Ok d) = Ok (record h { due = due.Functions; draft = d })
+with_draft h (Ok d) = Ok (record h { expected = expected.Functions; draft = d })
 
-abbrev pub closed_by : Head → List Token → Result Head Kind
-closed_by h [] = Ok (record h { due = due.Rest })
-closed_by h (x ∷ ts) = Err kind.Syntax
+abbrev pub head_with_end : Head → List Token → Result Head Kind
+head_with_end h [] = Ok (record h { expected = expected.Rest })
+head_with_end h (x ∷ ts) = Err kind.Syntax
 
 -- objects may stand before the first function
-abbrev pub object_line : ℕ → List Token → Head → Due → Result Head Kind
-object_line n ts h due.Setup = Err kind.Syntax
-object_line n ts h due.Objects = with_object n h (object_of ts)
-object_line n ts h due.Functions = Err kind.Syntax
-object_line n ts h due.Rest = Err kind.Syntax
+abbrev pub object_line : ℕ → List Token → Head → Expected → Result Head Kind
+object_line n ts h expected.Setup = Err kind.Syntax
+object_line n ts h expected.Objects = with_object n h (object_of ts)
+object_line n ts h expected.Functions = Err kind.Syntax
+object_line n ts h expected.Rest = Err kind.Syntax
 
-abbrev pub led_line : ℕ → Head → Lead × List Token → Result Head Kind
-led_line n h (lead.Function, ts) = with_draft h (draft_line n ts h.draft)
-led_line n h (lead.Object, ts) = object_line n ts h h.due
-led_line n h (lead.Close, ts) = closed_by h ts
-led_line n h (lead.Other, ts) = Err kind.Syntax
+abbrev pub head_word_line : ℕ → Head → HeadWord × List Token → Result Head Kind
+head_word_line n h (head_word.Function, ts) = with_draft h (draft_line n ts h.draft)
+head_word_line n h (head_word.Object, ts) = object_line n ts h h.expected
+head_word_line n h (head_word.Close, ts) = head_with_end h ts
+head_word_line n h (head_word.Other, ts) = Err kind.Syntax
 
 -- a line between functions, and one in a function
 abbrev pub between_line : List ℕ → ℕ → List Token → Head → Bool → Result Head Kind
 between_line close n ts h true = with_draft h (draft_line n ts h.draft)
-between_line close n ts h false = led_line n h (lead_at close ts)
+between_line close n ts h false = head_word_line n h (head_word_at close ts)
 
-abbrev pub due_line : List ℕ → ℕ → List Token → Head → Due → Result Head Kind
-due_line close n ts h due.Setup = with_setup h (setup_of ts)
-due_line close n ts h due.Objects = between_line close n ts h (is_inside h.draft.stage)
-due_line close n ts h due.Functions = between_line close n ts h (is_inside h.draft.stage)
-due_line close n ts h due.Rest = Err kind.Syntax
+abbrev pub expected_line : List ℕ → ℕ → List Token → Head → Expected → Result Head Kind
+expected_line close n ts h expected.Setup = with_setup h (setup_of ts)
+expected_line close n ts h expected.Objects = between_line close n ts h (is_in_function h.draft.stage)
+expected_line close n ts h expected.Functions = between_line close n ts h (is_in_function h.draft.stage)
+expected_line close n ts h expected.Rest = Err kind.Syntax
 
 -- a line of the head, of these tokens and with this number
 abbrev pub head_line : List ℕ → ℕ → List Token → Head → Result Head Kind
-head_line close n ts h = due_line close n ts h h.due
+head_line close n ts h = expected_line close n ts h h.expected
 
 -- nothing read yet: the setup is any until its line comes
-abbrev pub no_head : Head
-no_head = record {
-  due = due.Setup;
+abbrev pub empty_head : Head
+empty_head = record {
+  expected = expected.Setup;
   setup = record { shards = 1; replicas = 1; engines = 1; mode = mode.R; newer = None };
   objects = [];
   lines = [];
-  draft = no_draft;
+  draft = empty_draft;
 }
 
 -- whether the head has ended
-abbrev pub has_ended : Due → Bool
-has_ended due.Setup = false
-has_ended due.Objects = false
-has_ended due.Functions = false
-has_ended due.Rest = true
+abbrev pub has_ended : Expected → Bool
+has_ended expected.Setup = false
+has_ended expected.Objects = false
+has_ended expected.Functions = false
+has_ended expected.Rest = true
 
 -- The second pass over the objects: the first line that gives a name again. The numbers of the lines are those of ns from the
 -- place i on.

@@ -1,7 +1,6 @@
-pub mod Fields
 pub mod Events
 pub mod Heads
-pub mod Bodies
+pub mod EventLines
 pub mod Texts
 pub mod Turns
 pub mod TurnTexts

@@ -18,18 +18,18 @@ use Rattle.boki_types.specs.declared.turn.Report.{Report}
 use Rattle.boki_types.specs.declared.turn.Turn.{Turn}
 use Rattle.boki_types.specs.declared.turn.Turn.TheVariants as u
 use Rattle.boki_types.specs.Finding.{function_at}
-use Rattle.script_lang.specs.Printed.{◌&◌, listed, function_text}
+use Rattle.script_lang.specs.Printed.{◌&◌, comma_joined, function_text}
 
 -- A call. A function that isn't there has no name.
-abbrev pub named : Option Function → List ℕ
-named None = []
-named (Some f) = f.name
+abbrev pub name_or_none : Option Function → List ℕ
+name_or_none None = []
+name_or_none (Some f) = f.name
 
-abbrev pub name_at : List Function → ℕ → List ℕ
-name_at fs n = named (function_at n fs)
+abbrev pub function_name_at : List Function → ℕ → List ℕ
+function_name_at fs n = name_or_none (function_at n fs)
 
 abbrev pub call_text : List Function → ℕ → List Value → List ℕ
-call_text fs f args = name_at fs f & codes "(" & listed value_text args & codes ")"
+call_text fs f args = function_name_at fs f & codes "(" & comma_joined value_text args & codes ")"
 
 -- tags, with a comma between and no space
 abbrev pub tag_text : Tag → List ℕ
@@ -43,14 +43,14 @@ tags_text [] = []
 tags_text (tag ∷ tags) = tag_text tag & flat_map behind_tag tags
 
 -- a word with its space, and numbers
-abbrev pub one_text : List ℕ → ℕ → List ℕ
-one_text word n = word & decimal n
+abbrev pub one_number_text : List ℕ → ℕ → List ℕ
+one_number_text word n = word & decimal n
 
-abbrev pub pair_text : List ℕ → ℕ → ℕ → List ℕ
-pair_text word n m = word & decimal n & codes " " & decimal m
+abbrev pub two_number_text : List ℕ → ℕ → ℕ → List ℕ
+two_number_text word n m = word & decimal n & codes " " & decimal m
 
-abbrev pub triple_text : List ℕ → ℕ → ℕ → ℕ → List ℕ
-triple_text word n m k = word & decimal n & codes " " & decimal m & codes " " & decimal k
+abbrev pub three_number_text : List ℕ → ℕ → ℕ → ℕ → List ℕ
+three_number_text word n m k = word & decimal n & codes " " & decimal m & codes " " & decimal k
 
 -- the events that have more than numbers
 abbrev pub submit_text : List Function → ℕ → ℕ → ℕ → List Value → List ℕ
@@ -82,38 +82,38 @@ set_aux_text engine seq text = codes "setaux " & decimal engine & codes " " & de
 -- an event of a plan with these functions, without what stands before it on its line
 abbrev pub event_text : List Function → Event → List ℕ
 event_text fs (v.Submit engine request f args) = submit_text fs engine request f args
-event_text fs (v.Copy shard replica n) = triple_text (codes "copy ") shard replica n
+event_text fs (v.Copy shard replica n) = three_number_text (codes "copy ") shard replica n
 event_text fs v.Cut = codes "cut"
-event_text fs (v.Catch engine) = one_text (codes "catch ") engine
+event_text fs (v.Catch engine) = one_number_text (codes "catch ") engine
 event_text fs v.Sync = codes "sync"
-event_text fs (v.Restart engine) = one_text (codes "restart ") engine
+event_text fs (v.Restart engine) = one_number_text (codes "restart ") engine
 event_text fs (v.Start attempt path engine) = start_text attempt path engine
-event_text fs (v.Step attempt) = one_text (codes "step ") attempt
-event_text fs (v.Kill attempt) = one_text (codes "kill ") attempt
-event_text fs (v.Lose attempt) = one_text (codes "lose ") attempt
-event_text fs (v.Miss attempt) = one_text (codes "miss ") attempt
+event_text fs (v.Step attempt) = one_number_text (codes "step ") attempt
+event_text fs (v.Kill attempt) = one_number_text (codes "kill ") attempt
+event_text fs (v.Lose attempt) = one_number_text (codes "lose ") attempt
+event_text fs (v.Miss attempt) = one_number_text (codes "miss ") attempt
 event_text fs (v.Switch engine target) = switch_text engine target
-event_text fs (v.EndSwitch engine) = one_text (codes "endswitch ") engine
-event_text fs (v.Trim engine) = one_text (codes "trim ") engine
-event_text fs (v.Sweep engine) = one_text (codes "sweep ") engine
+event_text fs (v.EndSwitch engine) = one_number_text (codes "endswitch ") engine
+event_text fs (v.Trim engine) = one_number_text (codes "trim ") engine
+event_text fs (v.Sweep engine) = one_number_text (codes "sweep ") engine
 event_text fs (v.Append engine tags text) = append_text engine tags text
 event_text fs (v.Cond engine place tags text) = cond_text engine place tags text
-event_text fs (v.Next engine tag from) = triple_text (codes "next ") engine tag.0 from.0
-event_text fs (v.Prev engine tag upto) = triple_text (codes "prev ") engine tag.0 upto.0
-event_text fs (v.Tail engine tag) = pair_text (codes "tail ") engine tag.0
-event_text fs (v.TrimTag engine tag upto) = triple_text (codes "trimtag ") engine tag.0 upto.0
+event_text fs (v.Next engine tag from) = three_number_text (codes "next ") engine tag.0 from.0
+event_text fs (v.Prev engine tag upto) = three_number_text (codes "prev ") engine tag.0 upto.0
+event_text fs (v.Tail engine tag) = two_number_text (codes "tail ") engine tag.0
+event_text fs (v.TrimTag engine tag upto) = three_number_text (codes "trimtag ") engine tag.0 upto.0
 event_text fs (v.Settled engine shard local) = settled_text engine shard local
 event_text fs (v.SetAux engine seq text) = set_aux_text engine seq.0 text
-event_text fs (v.GetAux engine seq) = pair_text (codes "getaux ") engine seq.0
-event_text fs (v.Seed n) = one_text (codes "seed ") n
+event_text fs (v.GetAux engine seq) = two_number_text (codes "getaux ") engine seq.0
+event_text fs (v.Seed n) = one_number_text (codes "seed ") n
 
 -- the events of a repeat stand two spaces in
-abbrev pub inner_line : List Function → Event → List ℕ
-inner_line fs x = codes "  " & event_text fs x & codes "\n"
+abbrev pub repeat_line : List Function → Event → List ℕ
+repeat_line fs x = codes "  " & event_text fs x & codes "\n"
 
 abbrev pub item_text : List Function → Item → List ℕ
 item_text fs (One x) = event_text fs x & codes "\n"
-item_text fs (Repeat n xs) = codes "repeat " & decimal n & codes "\n" & flat_map (inner_line fs) xs & codes "end\n"
+item_text fs (Repeat n xs) = codes "repeat " & decimal n & codes "\n" & flat_map (repeat_line fs) xs & codes "end\n"
 
 -- the fifth number of a setup, where there is one
 abbrev pub newer_text : Option ℕ → List ℕ
@@ -126,24 +126,28 @@ setup_text setup =
     & codes " " & mode_text setup.mode & newer_text setup.newer & codes "\n"
 
 -- a line of a name and a value, behind a word
-abbrev pub valued_line : List ℕ → List ℕ × Value → List ℕ
-valued_line word p = word & quoted p.0 & codes " " & value_text p.1 & codes "\n"
+abbrev pub name_value_line : List ℕ → List ℕ × Value → List ℕ
+name_value_line word p = word & quoted p.0 & codes " " & value_text p.1 & codes "\n"
 
 -- all before the line that ends the head
 abbrev pub head_text : Plan → List ℕ
 head_text plan =
-    setup_text plan.setup & flat_map (valued_line (codes "object ")) plan.objects
+    setup_text plan.setup & flat_map (name_value_line (codes "object ")) plan.objects
     & flat_map function_text plan.program.functions
 
 abbrev pub plan_text : Plan → List ℕ
 plan_text plan =
     head_text plan & codes "events\n" & flat_map (item_text plan.program.functions) plan.items
 
+-- A turn, without the word `turn` before it.
+abbrev pub bare_turn_text : List Function → Turn → List ℕ
+bare_turn_text fs (u.Submit request f args) = codes "submit " & decimal request & codes " " & call_text fs f args
+bare_turn_text fs (u.Go path n) = codes "go " & path_text path & codes " " & decimal n
+bare_turn_text fs (u.End path) = codes "end " & path_text path
+
 -- A turn's line, without its line feed.
 abbrev pub turn_text : List Function → Turn → List ℕ
-turn_text fs (u.Submit request f args) = codes "turn submit " & decimal request & codes " " & call_text fs f args
-turn_text fs (u.Go path n) = codes "turn go " & path_text path & codes " " & decimal n
-turn_text fs (u.End path) = codes "turn end " & path_text path
+turn_text fs x = codes "turn " & bare_turn_text fs x
 
 abbrev pub turn_line : List Function → Turn → List ℕ
 turn_line fs x = turn_text fs x & codes "\n"
@@ -153,10 +157,10 @@ abbrev pub result_line : List ℕ × Outcome → List ℕ
 result_line p = codes "result " & path_text p.0 & codes " " & outcome_text p.1 & codes "\n"
 
 abbrev pub queue_line : List ℕ × List Value → List ℕ
-queue_line p = codes "queue " & quoted p.0 & codes " [" & listed value_text p.1 & codes "]\n"
+queue_line p = codes "queue " & quoted p.0 & codes " [" & comma_joined value_text p.1 & codes "]\n"
 
 abbrev pub report_text : List Function → Report → List ℕ
 report_text fs report =
     codes "report\n" & flat_map (turn_line fs) report.turns & flat_map result_line report.results
-    & flat_map (valued_line (codes "object ")) report.objects & flat_map queue_line report.queues
-    & flat_map (valued_line (codes "store ")) report.stores & codes "end\n"
+    & flat_map (name_value_line (codes "object ")) report.objects & flat_map queue_line report.queues
+    & flat_map (name_value_line (codes "store ")) report.stores & codes "end\n"

@@ -7,106 +7,109 @@ use Rattle.boki_types.specs.declared.program.Function.{Function}
 use Rattle.boki_types.specs.declared.turn.Turn.{Turn}
 use Rattle.boki_types.specs.declared.turn.Turn.TheVariants as u
 use Rattle.boki_types.specs.declared.turn.TurnText.{TurnText}
-use Rattle.script_lang.specs.declared.rated.Rated.{Rated}
-use Rattle.script_lang.specs.declared.rated.Rated.TheVariants as r
-use Rattle.script_lang.specs.declared.token.Key.TheVariants as k
-use Rattle.script_lang.specs.declared.token.Token.{Token}
-use Rattle.script_lang.specs.declared.token.Token.TheVariants as t
+use Rattle.line_text.specs.declared.checked.Checked.{Checked}
+use Rattle.line_text.specs.declared.checked.Checked.TheVariants as r
+use Rattle.line_text.specs.declared.token.Keyword.TheVariants as k
+use Rattle.line_text.specs.declared.token.Token.{Token}
+use Rattle.line_text.specs.declared.token.Token.TheVariants as t
 use Rattle.script_lang.specs.Names.{call_fault}
-use Rattle.script_lang.specs.Statements.{◌>>=◌, both, map_rated, alone, call_at}
+use Rattle.line_text.specs.Readers.{◌>>=◌, if_at_end}
+use Rattle.line_text.specs.Checks.{both_checked, map_checked}
+use Rattle.script_lang.specs.Statements.{call_at}
 use Rattle.plan_lang.specs.declared.drafts.TurnDraft.{TurnDraft}
-use Rattle.plan_lang.specs.declared.fault.PlanFault.{PlanFault}
+use Rattle.line_text.specs.declared.fault.TextFault.{TextFault}
 use Rattle.plan_lang.specs.declared.heads.Head.{Head}
 use Rattle.plan_lang.specs.declared.turns.TurnEntry.{TurnEntry}
-use Rattle.plan_lang.specs.Bodies.{first_fault}
-use Rattle.plan_lang.specs.Events.{number_of, request_at}
-use Rattle.plan_lang.specs.Fields.{number_at, path_at}
-use Rattle.plan_lang.specs.Heads.{head_line, no_head, has_ended}
-use Rattle.plan_lang.specs.Texts.{Takes, scan, refuse, head_fault, plan_made}
+use Rattle.line_text.specs.Faults.{first_fault, refused_at}
+use Rattle.plan_lang.specs.Events.{function_number_of, request_at}
+use Rattle.line_text.specs.Fields.{number_at, path_at}
+use Rattle.plan_lang.specs.Heads.{head_line, empty_head, has_ended}
+use Rattle.line_text.specs.Texts.{ReadsLine, scan_lines}
+use Rattle.plan_lang.specs.Texts.{head_fault, plan_of_parts}
 
 -- `Q F(VALUE, ..)`, with what the second pass finds wrong with the call
-abbrev pub called : List Function → ℕ × (List ℕ × List Value) → TurnEntry
-called fs p = record {
-  turn = u.Submit p.0 (number_of fs p.1.0) p.1.1;
+abbrev pub submit_turn_entry : List Function → ℕ × (List ℕ × List Value) → TurnEntry
+submit_turn_entry fs p = record {
+  turn = u.Submit p.0 (function_number_of fs p.1.0) p.1.1;
   fault = call_fault fs p.1.0 (length p.1.1);
 }
 
-abbrev pub submit_of : List Function → List Token → Option (Rated TurnEntry)
-submit_of fs ts = do
+abbrev pub submit_turn_of : List Function → List Token → Option (Checked TurnEntry)
+submit_turn_of fs ts = do
   request ← request_at ts
   call ← call_at request.1
-  alone call.1 (map_rated (called fs) (both request.0 call.0))
+  if_at_end call.1 (map_checked (submit_turn_entry fs) (both_checked request.0 call.0))
 
-abbrev pub callless : Turn → TurnEntry
-callless x = record { turn = x; fault = None }
+abbrev pub turn_without_call : Turn → TurnEntry
+turn_without_call x = record { turn = x; fault = None }
 
 -- `P N`
-abbrev pub go_of : List Token → Option (Rated TurnEntry)
-go_of ts = do
+abbrev pub go_turn_of : List Token → Option (Checked TurnEntry)
+go_turn_of ts = do
   path ← path_at ts
   n ← number_at 0 200000 path.1
-  alone n.1 (map_rated (λ p. callless (u.Go p.0 p.1)) (both path.0 n.0))
+  if_at_end n.1 (map_checked (λ p. turn_without_call (u.Go p.0 p.1)) (both_checked path.0 n.0))
 
 -- `P`
-abbrev pub end_of : List Token → Option (Rated TurnEntry)
-end_of ts = do
+abbrev pub end_turn_of : List Token → Option (Checked TurnEntry)
+end_turn_of ts = do
   path ← path_at ts
-  alone path.1 (map_rated (λ p. callless (u.End p)) path.0)
+  if_at_end path.1 (map_checked (λ p. turn_without_call (u.End p)) path.0)
 
 -- behind the word `turn`
-abbrev pub turn_by : List Function → List ℕ → List Token → Option (Rated TurnEntry)
-turn_by fs x ts =
-    if bytes_eq x (codes "submit") then submit_of fs ts else if bytes_eq x (codes "go") then go_of ts else None
+abbrev pub turn_of_word : List Function → List ℕ → List Token → Option (Checked TurnEntry)
+turn_of_word fs x ts =
+    if bytes_eq x (codes "submit") then submit_turn_of fs ts else if bytes_eq x (codes "go") then go_turn_of ts else None
 
-abbrev pub turn_behind : List Function → List Token → Option (Rated TurnEntry)
-turn_behind fs (t.Name x ∷ ts) = turn_by fs x ts
-turn_behind fs (t.Key k.End ∷ ts) = end_of ts
+abbrev pub turn_behind : List Function → List Token → Option (Checked TurnEntry)
+turn_behind fs (t.Name x ∷ ts) = turn_of_word fs x ts
+turn_behind fs (t.Keyword k.End ∷ ts) = end_turn_of ts
 turn_behind fs _ = None
 
 -- the turn of a line with functions above it; None where its tokens are none
-abbrev pub turn_of : List Function → List Token → Option (Rated TurnEntry)
+abbrev pub turn_of : List Function → List Token → Option (Checked TurnEntry)
 turn_of fs (t.Name x ∷ ts) = if bytes_eq x (codes "turn") then turn_behind fs ts else None
 turn_of fs _ = None
 
-abbrev pub with_turn : ℕ → TurnDraft → Option (Rated TurnEntry) → Result TurnDraft Kind
+abbrev pub with_turn : ℕ → TurnDraft → Option (Checked TurnEntry) → Result TurnDraft Kind
 with_turn n d None = Err kind.Syntax
-with_turn n d (Some r.Wide) = Err kind.Range
-with_turn n d (Some r.Deep) = Err kind.Deep
-with_turn n d (Some (r.Fine x)) =
+with_turn n d (Some r.OutOfRange) = Err kind.Range
+with_turn n d (Some r.TooDeep) = Err kind.Deep
+with_turn n d (Some (r.Valid x)) =
     Ok (record { head = d.head; turns = d.turns ++ (n, x.turn) ∷ []; fault = first_fault d.fault n x.fault })
 
 abbrev pub with_turn_head : TurnDraft → Result Head Kind → Result TurnDraft Kind
 with_turn_head d (Err k) = Err k
 with_turn_head d (Ok h) = Ok (record d { head = h })
 
-abbrev pub turn_text_by : ℕ → List Token → TurnDraft → Bool → Result TurnDraft Kind
-turn_text_by n ts d false = with_turn_head d (head_line (codes "turns") n ts d.head)
-turn_text_by n ts d true = with_turn n d (turn_of d.head.draft.functions ts)
+abbrev pub turn_part_line : ℕ → List Token → TurnDraft → Bool → Result TurnDraft Kind
+turn_part_line n ts d false = with_turn_head d (head_line (codes "turns") n ts d.head)
+turn_part_line n ts d true = with_turn n d (turn_of d.head.draft.functions ts)
 
-abbrev pub turn_line : Takes TurnDraft
-turn_line n ts d = turn_text_by n ts d (has_ended d.head.due)
+abbrev pub turn_draft_line : ReadsLine TurnDraft
+turn_draft_line n ts d = turn_part_line n ts d (has_ended d.head.expected)
 
-abbrev pub no_turns : TurnDraft
-no_turns = record { head = no_head; turns = []; fault = None }
+abbrev pub empty_turn_draft : TurnDraft
+empty_turn_draft = record { head = empty_head; turns = []; fault = None }
 
-abbrev pub turns_named : Head → List (ℕ × Turn) → Option (ℕ × Kind) → Result TurnText PlanFault
-turns_named h turns None = Ok (record { plan = plan_made h []; turns = turns })
-turns_named h turns (Some fault) = Err (refuse fault.0 fault.1)
+abbrev pub turns_or_fault : Head → List (ℕ × Turn) → Option (ℕ × Kind) → Result TurnText TextFault
+turns_or_fault h turns None = Ok (record { plan = plan_of_parts h []; turns = turns })
+turns_or_fault h turns (Some fault) = Err (refused_at fault.0 fault.1)
 
-abbrev pub turns_stopped : ℕ → TurnDraft → Bool → Result TurnText PlanFault
-turns_stopped n d true = turns_named d.head d.turns (head_fault d.head d.fault)
-turns_stopped n d false = Err (refuse n kind.End)
+abbrev pub turns_if_whole : ℕ → TurnDraft → Bool → Result TurnText TextFault
+turns_if_whole n d true = turns_or_fault d.head d.turns (head_fault d.head d.fault)
+turns_if_whole n d false = Err (refused_at n kind.End)
 
-abbrev pub turns_ended : ℕ → TurnDraft → Result TurnText PlanFault
-turns_ended n d = turns_stopped n d (has_ended d.head.due)
+abbrev pub turns_at_end : ℕ → TurnDraft → Result TurnText TextFault
+turns_at_end n d = turns_if_whole n d (has_ended d.head.expected)
 
-abbrev pub turns_finished : Result (ℕ × TurnDraft) PlanFault → Result TurnText PlanFault
-turns_finished (Err fault) = Err fault
-turns_finished (Ok p) = turns_ended p.0 p.1
+abbrev pub turns_of_scan : Result (ℕ × TurnDraft) TextFault → Result TurnText TextFault
+turns_of_scan (Err fault) = Err fault
+turns_of_scan (Ok p) = turns_at_end p.0 p.1
 
-abbrev pub turns_in : List ℕ → Result TurnText PlanFault
-turns_in text = turns_finished (scan turn_line 300000 1 text no_turns)
+abbrev pub turns_of_lines : List ℕ → Result TurnText TextFault
+turns_of_lines text = turns_of_scan (scan_lines turn_draft_line 300000 1 text empty_turn_draft)
 
 -- the turns and the plan's head that a text spells; or the first line that is refused, and why
-abbrev pub turns_of : List ℕ → Result TurnText PlanFault
-turns_of text = if nat_lt 16777216 (length text) then Err (refuse 0 kind.Length) else turns_in text
+abbrev pub turns_of : List ℕ → Result TurnText TextFault
+turns_of text = if nat_lt 16777216 (length text) then Err (refused_at 0 kind.Length) else turns_of_lines text

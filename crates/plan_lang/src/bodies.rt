@@ -1,23 +1,22 @@
 //! The events of a plan, line by line.
 
 ghost use Rattle.std.specs.Prelude.{◌≡◌, ◌+◌, ◌*◌, ◌^◌, ◌<◌, ◌++◌, [], ◌∷◌, length, IfOk};
-ghost use Rattle.script_lang.specs.Functions.{LineGives};
-ghost use Rattle.plan_lang.specs.Bodies.{whole, times_of, opened_by, opened, within, counted, closed_by, closed, first_fault, grown, placed, heard, worded_line, body_line, no_body};
+ghost use Rattle.line_text.specs.Faults.{LineGives};
+ghost use Rattle.plan_lang.specs.EventLines.{body_outside_repeat, times_of, body_with_open_repeat, body_with_repeat, within_event_limit, body_with_counted, body_with_closed, body_with_end, repeat_with_event, body_with_entry, body_with_found, word_line, body_line, empty_body};
 
-use crate::entries::read_worded;
+use crate::entries::read_entry_of_word;
 use crate::events::Entry;
-use crate::fields::{only, read_small};
+use boki_model::limits::MAX_EVENTS;
 use boki_types::{Event, Function, Item, Kind, Setup};
 use lb_base::{List, Memory};
-use script_lang::text::{Key, LineFault, Rated, Token, Tokens};
+use line_text::{
+    Checked, Keyword, LineFault, Token, Tokens, checked_at_end, earlier_fault, read_u32_in,
+};
 use std::alloc::Global;
-
-/// The most events of a plan, repeats counted.
-const MOST_EVENTS: u64 = 200000;
 
 /// A repeat that is open, with its events so far.
 #[derive(Drop)]
-pub struct Block {
+pub struct RepeatBlock {
     pub times: u32,
     pub events: List<Event>,
 }
@@ -25,45 +24,59 @@ pub struct Block {
 /// What was read of a plan's events: the items, how many events they stand for, the repeat that is open, and the first call of a
 /// function that isn't there or takes another number of arguments, by its line.
 #[derive(Drop)]
-pub struct Body {
+pub struct PlanBody {
     pub items: List<Item>,
     pub count: u64,
-    pub block: Option<Block>,
+    pub block: Option<RepeatBlock>,
     pub fault: Option<(u64, Kind)>,
 }
 
 /// `N`, behind `repeat`.
-fn read_times(tokens: &mut Tokens) -> Option<Rated<u32>>
+fn read_times(tokens: &mut Tokens) -> Option<Checked<u32>>
     ensures { result ≡ times_of tokens.old }
 {
-    match read_small(tokens, 1, 200000) {
-        Some(times) => only(tokens, times),
+    match read_u32_in(tokens, 1, 200000) {
+        Some(times) => checked_at_end(tokens, times),
         None => None,
     }
 }
 
 /// The body with a repeat that opens.
-fn open_block(alloc: Global, body: Body, times: Option<Rated<u32>>) -> Result<Body, LineFault>
-    ensures { LineGives result (opened body times) }
+fn open_repeat(
+    alloc: Global,
+    body: PlanBody,
+    times: Option<Checked<u32>>,
+) -> Result<PlanBody, LineFault>
+    ensures { LineGives result (body_with_repeat body times) }
 {
     let Some(times) = times else {
+        drop(body);
         return Err(LineFault::Refused(Kind::Syntax));
     };
-    let Body {
+    let PlanBody {
         items,
         count,
         block,
         fault,
     } = body;
     match block {
-        Some(_) => Err(LineFault::Refused(Kind::Syntax)),
+        Some(block) => {
+            drop((items, block));
+            Err(LineFault::Refused(Kind::Syntax))
+        }
         None => match times {
-            Rated::Wide => Err(LineFault::Refused(Kind::Range)),
-            Rated::Deep => Err(LineFault::Refused(Kind::Deep)),
-            Rated::Fine(times) => Ok(Body {
+            Checked::OutOfRange => {
+                drop(items);
+                Err(LineFault::Refused(Kind::Range))
+            }
+            Checked::TooDeep => {
+                drop(items);
+                Err(LineFault::Refused(Kind::Deep))
+            }
+            Checked::Valid(times) => Ok(PlanBody {
                 items,
                 count,
-                block: Some(Block {
+                block: Some(RepeatBlock {
                     times,
                     events: List::new(alloc),
                 }),
@@ -75,17 +88,17 @@ fn open_block(alloc: Global, body: Body, times: Option<Rated<u32>>) -> Result<Bo
 
 /// How many events there are with those of a repeat; None where they are too many.
 fn count_within(count: u64, times: u64, len: u64) -> Option<u64>
-    ensures { result ≡ within (count + times * len) }
+    ensures { result ≡ within_event_limit (count + times * len) }
 {
     let sum = times.saturating_mul(len).saturating_add(count);
-    if sum <= MOST_EVENTS { Some(sum) } else { None }
+    if sum <= MAX_EVENTS { Some(sum) } else { None }
 }
 
 /// How many events there are with one more; None where they are too many.
 fn count_one(count: u64) -> Option<u64>
-    ensures { result ≡ within (count + 1) }
+    ensures { result ≡ within_event_limit (count + 1) }
 {
-    if count < MOST_EVENTS {
+    if count < MAX_EVENTS {
         Some(count + 1)
     } else {
         None
@@ -93,10 +106,10 @@ fn count_one(count: u64) -> Option<u64>
 }
 
 /// The items with a repeat that closes.
-fn push_repeat(items: List<Item>, block: Block) -> Result<List<Item>, Memory>
+fn push_repeat(items: List<Item>, block: RepeatBlock) -> Result<List<Item>, Memory>
     ensures { IfOk result (λ more. more ≡ items ++ Item.Repeat block.times block.events ∷ []) }
 {
-    let Block { times, events } = block;
+    let RepeatBlock { times, events } = block;
     let mut items = items;
     items.push(Item::Repeat(times, events))?;
     Ok(items)
@@ -112,20 +125,20 @@ fn push_event(items: List<Item>, event: Event) -> Result<List<Item>, Memory>
 }
 
 /// The body with the end of the repeat that is open.
-fn close_block(
+fn close_repeat(
     items: List<Item>,
     count: u64,
     fault: Option<(u64, Kind)>,
-    block: Block,
-) -> Result<Body, LineFault>
-    ensures { LineGives result (closed_by (whole items count fault) block block.events) }
+    block: RepeatBlock,
+) -> Result<PlanBody, LineFault>
+    ensures { LineGives result (body_with_closed (body_outside_repeat items count fault) block block.events) }
 {
     if block.events.is_empty() {
         return Err(LineFault::Refused(Kind::Syntax));
     }
     let len = block.events.len() as u64;
     match count_within(count, u64::from(block.times), len) {
-        Some(count) => Ok(Body {
+        Some(count) => Ok(PlanBody {
             items: push_repeat(items, block)?,
             count,
             block: None,
@@ -136,10 +149,10 @@ fn close_block(
 }
 
 /// The body with a line that begins with `end`, behind that word.
-fn end_block(tokens: &Tokens, body: Body) -> Result<Body, LineFault>
-    ensures { LineGives result (closed body body.block tokens.now) }
+fn end_block(tokens: &Tokens, body: PlanBody) -> Result<PlanBody, LineFault>
+    ensures { LineGives result (body_with_end body body.block tokens.now) }
 {
-    let Body {
+    let PlanBody {
         items,
         count,
         block,
@@ -148,46 +161,33 @@ fn end_block(tokens: &Tokens, body: Body) -> Result<Body, LineFault>
     match block {
         Some(block) => {
             if tokens.is_empty() {
-                close_block(items, count, fault, block)
+                close_repeat(items, count, fault, block)
             } else {
+                drop((items, block));
                 Err(LineFault::Refused(Kind::Syntax))
             }
         }
-        None => Err(LineFault::Refused(Kind::Syntax)),
-    }
-}
-
-/// The first fault, where a line may have one.
-pub(crate) fn first_of(
-    fault: Option<(u64, Kind)>,
-    number: u64,
-    found: Option<Kind>,
-) -> Option<(u64, Kind)>
-    ensures { result ≡ first_fault fault number found }
-{
-    match fault {
-        Some(fault) => Some(fault),
-        None => match found {
-            Some(kind) => Some((number, kind)),
-            None => None,
-        },
+        None => {
+            drop(items);
+            Err(LineFault::Refused(Kind::Syntax))
+        }
     }
 }
 
 /// The repeat with one more event.
-fn grow(block: Block, event: Event) -> Result<Block, Memory>
-    ensures { IfOk result (λ more. more ≡ grown block event) }
+fn add_to_repeat(block: RepeatBlock, event: Event) -> Result<RepeatBlock, Memory>
+    ensures { IfOk result (λ more. more ≡ repeat_with_event block event) }
 {
-    let Block { times, mut events } = block;
+    let RepeatBlock { times, mut events } = block;
     events.push(event)?;
-    Ok(Block { times, events })
+    Ok(RepeatBlock { times, events })
 }
 
 /// The body with an event.
-fn place_event(number: u64, body: Body, entry: Entry) -> Result<Body, LineFault>
-    ensures { LineGives result (placed number body body.block entry) }
+fn add_entry(number: u64, body: PlanBody, entry: Entry) -> Result<PlanBody, LineFault>
+    ensures { LineGives result (body_with_entry number body body.block entry) }
 {
-    let Body {
+    let PlanBody {
         items,
         count,
         block,
@@ -197,44 +197,60 @@ fn place_event(number: u64, body: Body, entry: Entry) -> Result<Body, LineFault>
         event,
         fault: found,
     } = entry;
-    let fault = first_of(fault, number, found);
+    let fault = earlier_fault(fault, number, found);
     match block {
-        Some(block) => Ok(Body {
+        Some(block) => Ok(PlanBody {
             items,
             count,
-            block: Some(grow(block, event)?),
+            block: Some(add_to_repeat(block, event)?),
             fault,
         }),
         None => match count_one(count) {
-            Some(count) => Ok(Body {
+            Some(count) => Ok(PlanBody {
                 items: push_event(items, event)?,
                 count,
                 block: None,
                 fault,
             }),
-            None => Err(LineFault::Refused(Kind::Events)),
+            None => {
+                drop((items, event));
+                Err(LineFault::Refused(Kind::Events))
+            }
         },
     }
 }
 
 /// The body with the event of a line, where it is one.
-fn add_event(number: u64, body: Body, found: Option<Rated<Entry>>) -> Result<Body, LineFault>
-    ensures { LineGives result (heard number body found) }
+fn add_checked_entry(
+    number: u64,
+    body: PlanBody,
+    found: Option<Checked<Entry>>,
+) -> Result<PlanBody, LineFault>
+    ensures { LineGives result (body_with_found number body found) }
 {
     match found {
-        None => Err(LineFault::Refused(Kind::Syntax)),
-        Some(Rated::Wide) => Err(LineFault::Refused(Kind::Range)),
-        Some(Rated::Deep) => Err(LineFault::Refused(Kind::Deep)),
-        Some(Rated::Fine(entry)) => place_event(number, body, entry),
+        None => {
+            drop(body);
+            Err(LineFault::Refused(Kind::Syntax))
+        }
+        Some(Checked::OutOfRange) => {
+            drop(body);
+            Err(LineFault::Refused(Kind::Range))
+        }
+        Some(Checked::TooDeep) => {
+            drop(body);
+            Err(LineFault::Refused(Kind::Deep))
+        }
+        Some(Checked::Valid(entry)) => add_entry(number, body, entry),
     }
 }
 
-impl Body {
+impl PlanBody {
     /// No event yet.
-    pub(crate) fn new(alloc: Global) -> Body
-        ensures { result ≡ no_body }
+    pub(crate) fn new(alloc: Global) -> PlanBody
+        ensures { result ≡ empty_body }
     {
-        Body {
+        PlanBody {
             items: List::new(alloc),
             count: 0,
             block: None,
@@ -243,7 +259,7 @@ impl Body {
     }
 
     /// The body with a line behind a word.
-    fn add_worded(
+    fn add_word_line(
         self,
         alloc: Global,
         setup: &Setup,
@@ -251,15 +267,20 @@ impl Body {
         number: u64,
         tokens: &mut Tokens,
         word: &str,
-    ) -> Result<Body, LineFault>
+    ) -> Result<PlanBody, LineFault>
         requires { length functions.now < 2 ^ 32 }
-        ensures { LineGives result (worded_line setup.now functions.now number word.now tokens.old self) }
+        ensures { LineGives result (word_line setup.now functions.now number word.now tokens.old self) }
     {
         if word == "repeat" {
-            open_block(alloc, self, read_times(tokens))
+            open_repeat(alloc, self, read_times(tokens))
         } else {
-            let found = read_worded(alloc, tokens, setup, functions, word)?;
-            add_event(number, self, found)
+            match read_entry_of_word(alloc, tokens, setup, functions, word) {
+                Ok(found) => add_checked_entry(number, self, found),
+                Err(_) => {
+                    drop(self);
+                    Err(LineFault::Memory)
+                }
+            }
         }
     }
 
@@ -273,16 +294,19 @@ impl Body {
         functions: &[Function],
         number: u64,
         mut tokens: Tokens,
-    ) -> Result<Body, LineFault>
+    ) -> Result<PlanBody, LineFault>
         requires { length functions.now < 2 ^ 32 }
         ensures { LineGives result (body_line setup.now functions.now number tokens self) }
     {
         match tokens.take() {
             Some(Token::Name(word)) => {
-                self.add_worded(alloc, setup, functions, number, &mut tokens, word.as_str())
+                self.add_word_line(alloc, setup, functions, number, &mut tokens, word.as_str())
             }
-            Some(Token::Key(Key::End)) => end_block(&tokens, self),
-            _ => Err(LineFault::Refused(Kind::Syntax)),
+            Some(Token::Keyword(Keyword::End)) => end_block(&tokens, self),
+            _ => {
+                drop(self);
+                Err(LineFault::Refused(Kind::Syntax))
+            }
         }
     }
 }

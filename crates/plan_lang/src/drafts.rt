@@ -1,23 +1,24 @@
 //! What was read of a text so far.
 
 ghost use Rattle.std.specs.Prelude.{◌≡◌, ◌^◌, ◌<◌, length};
-ghost use Rattle.script_lang.specs.Functions.{LineGives};
-ghost use Rattle.plan_lang.specs.Texts.{plan_line, no_plan, line_at, cut_line, whole_line};
-ghost use Rattle.plan_lang.specs.Turns.{turn_line, with_turn, no_turns};
+ghost use Rattle.line_text.specs.Faults.{LineGives};
+ghost use Rattle.plan_lang.specs.Texts.{plan_line, empty_plan_draft};
+ghost use Rattle.line_text.specs.Texts.{read_text_line};
+ghost use Rattle.plan_lang.specs.Turns.{turn_draft_line, with_turn, empty_turn_draft};
 
-use crate::bodies::{Body, first_of};
+use crate::bodies::PlanBody;
 use crate::heads::Head;
 use crate::turns::{TurnEntry, read_turn};
 use boki_types::{Kind, Turn};
 use lb_base::List;
-use script_lang::text::{Line, LineFault, Rated, Tokens, as_text, read_line};
+use line_text::{Checked, LexedLine, LineFault, Tokens, earlier_fault, lex_text_line};
 use std::alloc::Global;
 
 /// What was read of a plan.
 #[derive(Drop)]
 pub struct PlanDraft {
     pub head: Head,
-    pub body: Body,
+    pub body: PlanBody,
 }
 
 /// What was read of a text of turns: the head, each turn with its line, and the first call that is wrong, by its line.
@@ -28,45 +29,14 @@ pub struct TurnDraft {
     pub fault: Option<(u64, Kind)>,
 }
 
-/// A line of a text that has at most so many lines, as its pieces.
-pub(crate) fn line_of_text(
-    alloc: Global,
-    most: u64,
-    number: u64,
-    line: &[u8],
-) -> Result<Line, LineFault>
-    ensures { LineGives result (line_at most number line.now) }
-{
-    if number > most {
-        return Err(LineFault::Refused(Kind::Lines));
-    }
-    match as_text(line) {
-        Some(text) => Ok(read_line(alloc, text)?),
-        None => Err(LineFault::Refused(Kind::Utf8)),
-    }
-}
-
-/// What is wrong with a last line without its line feed, in a text that has at most so many lines.
-pub(crate) fn fault_of_cut(most: u64, number: u64, line: &[u8]) -> Kind
-    ensures { result ≡ cut_line most number line.now }
-{
-    if number > most {
-        return Kind::Lines;
-    }
-    match as_text(line) {
-        Some(_) => Kind::Truncated,
-        None => Kind::Utf8,
-    }
-}
-
 impl PlanDraft {
     /// Nothing read yet.
     pub(crate) fn new(alloc: Global) -> PlanDraft
-        ensures { result ≡ no_plan }
+        ensures { result ≡ empty_plan_draft }
     {
         PlanDraft {
             head: Head::new(alloc),
-            body: Body::new(alloc),
+            body: PlanBody::new(alloc),
         }
     }
 
@@ -78,11 +48,21 @@ impl PlanDraft {
         let PlanDraft { head, body } = self;
         if head.has_ended() {
             let functions = head.draft.functions.as_slice();
-            let body = body.add_line(alloc, &head.setup, functions, number, tokens)?;
-            Ok(PlanDraft { head, body })
+            match body.add_line(alloc, &head.setup, functions, number, tokens) {
+                Ok(body) => Ok(PlanDraft { head, body }),
+                Err(fault) => {
+                    drop(head);
+                    Err(fault)
+                }
+            }
         } else {
-            let head = head.add_line(alloc, "events", number, tokens)?;
-            Ok(PlanDraft { head, body })
+            match head.add_line(alloc, "events", number, tokens) {
+                Ok(head) => Ok(PlanDraft { head, body }),
+                Err(fault) => {
+                    drop(body);
+                    Err(fault)
+                }
+            }
         }
     }
 
@@ -94,12 +74,19 @@ impl PlanDraft {
         line: &[u8],
     ) -> Result<PlanDraft, LineFault>
         requires { length self.head.draft.functions < 2 ^ 32 }
-        ensures { LineGives result (whole_line plan_line 65536 number line.now self) }
+        ensures { LineGives result (read_text_line plan_line 65536 number line.now self) }
     {
-        match line_of_text(alloc, 65536, number, line)? {
-            Line::Skipped => Ok(self),
-            Line::Tokens(tokens) => self.add_tokens(alloc, number, tokens),
-            Line::Bad => Err(LineFault::Refused(Kind::Syntax)),
+        match lex_text_line(alloc, 65536, number, line) {
+            Ok(LexedLine::Skipped) => Ok(self),
+            Ok(LexedLine::Tokens(tokens)) => self.add_tokens(alloc, number, tokens),
+            Ok(LexedLine::Invalid) => {
+                drop(self);
+                Err(LineFault::Refused(Kind::Syntax))
+            }
+            Err(fault) => {
+                drop(self);
+                Err(fault)
+            }
         }
     }
 }
@@ -107,7 +94,7 @@ impl PlanDraft {
 impl TurnDraft {
     /// Nothing read yet.
     pub(crate) fn new(alloc: Global) -> TurnDraft
-        ensures { result ≡ no_turns }
+        ensures { result ≡ empty_turn_draft }
     {
         TurnDraft {
             head: Head::new(alloc),
@@ -117,14 +104,27 @@ impl TurnDraft {
     }
 
     /// With the turn of a line, where it is one.
-    fn add_turn(self, number: u64, found: Option<Rated<TurnEntry>>) -> Result<TurnDraft, LineFault>
+    fn add_turn(
+        self,
+        number: u64,
+        found: Option<Checked<TurnEntry>>,
+    ) -> Result<TurnDraft, LineFault>
         ensures { LineGives result (with_turn number self found) }
     {
         match found {
-            None => Err(LineFault::Refused(Kind::Syntax)),
-            Some(Rated::Wide) => Err(LineFault::Refused(Kind::Range)),
-            Some(Rated::Deep) => Err(LineFault::Refused(Kind::Deep)),
-            Some(Rated::Fine(entry)) => {
+            None => {
+                drop(self);
+                Err(LineFault::Refused(Kind::Syntax))
+            }
+            Some(Checked::OutOfRange) => {
+                drop(self);
+                Err(LineFault::Refused(Kind::Range))
+            }
+            Some(Checked::TooDeep) => {
+                drop(self);
+                Err(LineFault::Refused(Kind::Deep))
+            }
+            Some(Checked::Valid(entry)) => {
                 let TurnDraft {
                     head,
                     mut turns,
@@ -132,7 +132,7 @@ impl TurnDraft {
                 } = self;
                 let TurnEntry { turn, fault: found } = entry;
                 turns.push((number, turn))?;
-                let fault = first_of(fault, number, found);
+                let fault = earlier_fault(fault, number, found);
                 Ok(TurnDraft { head, turns, fault })
             }
         }
@@ -141,15 +141,26 @@ impl TurnDraft {
     /// With a line that isn't skipped, of these tokens and with this number.
     fn add_tokens(self, alloc: Global, number: u64, tokens: Tokens) -> Result<TurnDraft, LineFault>
         requires { length self.head.draft.functions < 2 ^ 32 }
-        ensures { LineGives result (turn_line number tokens self) }
+        ensures { LineGives result (turn_draft_line number tokens self) }
     {
         if self.head.has_ended() {
-            let found = read_turn(alloc, tokens, self.head.draft.functions.as_slice())?;
-            return self.add_turn(number, found);
+            match read_turn(alloc, tokens, self.head.draft.functions.as_slice()) {
+                Ok(found) => self.add_turn(number, found),
+                Err(_) => {
+                    drop(self);
+                    Err(LineFault::Memory)
+                }
+            }
+        } else {
+            let TurnDraft { head, turns, fault } = self;
+            match head.add_line(alloc, "turns", number, tokens) {
+                Ok(head) => Ok(TurnDraft { head, turns, fault }),
+                Err(fault) => {
+                    drop(turns);
+                    Err(fault)
+                }
+            }
         }
-        let TurnDraft { head, turns, fault } = self;
-        let head = head.add_line(alloc, "turns", number, tokens)?;
-        Ok(TurnDraft { head, turns, fault })
     }
 
     /// With a line of the text, given without its line feed.
@@ -160,12 +171,19 @@ impl TurnDraft {
         line: &[u8],
     ) -> Result<TurnDraft, LineFault>
         requires { length self.head.draft.functions < 2 ^ 32 }
-        ensures { LineGives result (whole_line turn_line 300000 number line.now self) }
+        ensures { LineGives result (read_text_line turn_draft_line 300000 number line.now self) }
     {
-        match line_of_text(alloc, 300000, number, line)? {
-            Line::Skipped => Ok(self),
-            Line::Tokens(tokens) => self.add_tokens(alloc, number, tokens),
-            Line::Bad => Err(LineFault::Refused(Kind::Syntax)),
+        match lex_text_line(alloc, 300000, number, line) {
+            Ok(LexedLine::Skipped) => Ok(self),
+            Ok(LexedLine::Tokens(tokens)) => self.add_tokens(alloc, number, tokens),
+            Ok(LexedLine::Invalid) => {
+                drop(self);
+                Err(LineFault::Refused(Kind::Syntax))
+            }
+            Err(fault) => {
+                drop(self);
+                Err(fault)
+            }
         }
     }
 }

@@ -2,21 +2,21 @@
 
 ghost use Rattle.std.specs.Prelude.{◌≡◌, ◌^◌, ◌<◌, IfOk, length};
 ghost use Rattle.boki_types.specs.Finding.{find};
-ghost use Rattle.script_lang.specs.Statements.{map_rated};
-ghost use Rattle.plan_lang.specs.Events.{number_of, submitted, submit_of, callless, plain, plain_of, plain_by, worded};
+ghost use Rattle.line_text.specs.Checks.{map_checked};
+ghost use Rattle.plan_lang.specs.Events.{function_number_of, submit_entry, submit_of, entry_without_call, entry_of_event, event_of_verb, event_of_verb_if, entry_of_word};
 
 use crate::events::{
-    Entry, OfAttempt, OfEngine, OfTag, read_copy, read_engine, read_of_attempt, read_of_engine,
-    read_of_tag, read_request, read_start, read_switch,
+    AttemptForm, EngineForm, Entry, TagForm, read_attempt_event, read_copy, read_engine,
+    read_engine_event, read_request, read_start, read_switch, read_tag_event,
 };
-use crate::fields::{only, rate_both};
 use crate::records::{
     read_append, read_cond, read_get_aux, read_seed, read_set_aux, read_settled, read_tail,
 };
 use crate::verb::{Verb, verb_of_text};
 use boki_types::{Event, Function, Setup};
 use lb_base::{List, Memory, Value, Words};
-use script_lang::text::{Rated, Tokens, call_fault, read_call};
+use line_text::{Checked, Tokens, check_both, checked_at_end};
+use script_lang::text::{call_fault, read_call};
 use std::alloc::Global;
 
 /// The number of the first function of a name, from 0.
@@ -34,10 +34,10 @@ fn find_function(functions: &[Function], name: &str) -> Option<u32>
     None
 }
 
-/// The number of the first function of a name, from 0; 0 where no function has it.
-pub(crate) fn function_number(functions: &[Function], name: &str) -> u32
+/// The number of the first function of a name, from 0; 0 where no function has it. It needs fewer than 2^32 functions.
+pub fn function_number(functions: &[Function], name: &str) -> u32
     requires { length functions.now < 2 ^ 32 }
-    ensures { result ≡ number_of functions.now name.now }
+    ensures { result ≡ function_number_of functions.now name.now }
 {
     find_function(functions, name).unwrap_or(0)
 }
@@ -45,7 +45,7 @@ pub(crate) fn function_number(functions: &[Function], name: &str) -> u32
 /// The event of a call, with what is wrong with the call.
 fn submit(functions: &[Function], engine: u32, request: u32, call: (Words, List<Value>)) -> Entry
     requires { length functions.now < 2 ^ 32 }
-    ensures { result ≡ submitted functions.now ((engine, request), call) }
+    ensures { result ≡ submit_entry functions.now ((engine, request), call) }
 {
     let (name, args) = call;
     let function = function_number(functions, name.as_str());
@@ -67,7 +67,7 @@ fn read_submit(
     tokens: &mut Tokens,
     setup: &Setup,
     functions: &[Function],
-) -> Result<Option<Rated<Entry>>, Memory>
+) -> Result<Option<Checked<Entry>>, Memory>
     requires { length functions.now < 2 ^ 32 }
     ensures { IfOk result (λ found. found ≡ submit_of setup.now functions.now tokens.old) }
 {
@@ -80,46 +80,46 @@ fn read_submit(
     let Some(call) = read_call(alloc, tokens)? else {
         return Ok(None);
     };
-    let entry = match rate_both(rate_both(engine, request), call) {
-        Rated::Fine(((engine, request), call)) => {
-            Rated::Fine(submit(functions, engine, request, call))
+    let entry = match check_both(check_both(engine, request), call) {
+        Checked::Valid(((engine, request), call)) => {
+            Checked::Valid(submit(functions, engine, request, call))
         }
-        Rated::Wide => Rated::Wide,
-        Rated::Deep => Rated::Deep,
+        Checked::OutOfRange => Checked::OutOfRange,
+        Checked::TooDeep => Checked::TooDeep,
     };
-    Ok(only(tokens, entry))
+    Ok(checked_at_end(tokens, entry))
 }
 
 /// The event behind a word.
-fn read_plain(
+fn read_event_of_verb(
     alloc: Global,
     tokens: &mut Tokens,
     setup: &Setup,
     verb: Verb,
-) -> Result<Option<Rated<Event>>, Memory>
-    ensures { IfOk result (λ found. found ≡ plain_of setup.now verb tokens.old) }
+) -> Result<Option<Checked<Event>>, Memory>
+    ensures { IfOk result (λ found. found ≡ event_of_verb setup.now verb tokens.old) }
 {
     match verb {
         Verb::Copy => Ok(read_copy(tokens, setup)),
-        Verb::Cut => Ok(only(tokens, Rated::Fine(Event::Cut))),
-        Verb::Catch => Ok(read_of_engine(tokens, setup, OfEngine::Catch)),
-        Verb::Sync => Ok(only(tokens, Rated::Fine(Event::Sync))),
-        Verb::Restart => Ok(read_of_engine(tokens, setup, OfEngine::Restart)),
+        Verb::Cut => Ok(checked_at_end(tokens, Checked::Valid(Event::Cut))),
+        Verb::Catch => Ok(read_engine_event(tokens, setup, EngineForm::Catch)),
+        Verb::Sync => Ok(checked_at_end(tokens, Checked::Valid(Event::Sync))),
+        Verb::Restart => Ok(read_engine_event(tokens, setup, EngineForm::Restart)),
         Verb::Start => read_start(alloc, tokens, setup),
-        Verb::Step => Ok(read_of_attempt(tokens, OfAttempt::Step)),
-        Verb::Kill => Ok(read_of_attempt(tokens, OfAttempt::Kill)),
-        Verb::Lose => Ok(read_of_attempt(tokens, OfAttempt::Lose)),
-        Verb::Miss => Ok(read_of_attempt(tokens, OfAttempt::Miss)),
+        Verb::Step => Ok(read_attempt_event(tokens, AttemptForm::Step)),
+        Verb::Kill => Ok(read_attempt_event(tokens, AttemptForm::Kill)),
+        Verb::Lose => Ok(read_attempt_event(tokens, AttemptForm::Lose)),
+        Verb::Miss => Ok(read_attempt_event(tokens, AttemptForm::Miss)),
         Verb::Switch => Ok(read_switch(tokens, setup)),
-        Verb::EndSwitch => Ok(read_of_engine(tokens, setup, OfEngine::EndSwitch)),
-        Verb::Trim => Ok(read_of_engine(tokens, setup, OfEngine::Trim)),
-        Verb::Sweep => Ok(read_of_engine(tokens, setup, OfEngine::Sweep)),
+        Verb::EndSwitch => Ok(read_engine_event(tokens, setup, EngineForm::EndSwitch)),
+        Verb::Trim => Ok(read_engine_event(tokens, setup, EngineForm::Trim)),
+        Verb::Sweep => Ok(read_engine_event(tokens, setup, EngineForm::Sweep)),
         Verb::Append => read_append(alloc, tokens, setup),
         Verb::Cond => read_cond(alloc, tokens, setup),
-        Verb::Next => Ok(read_of_tag(tokens, setup, OfTag::Next)),
-        Verb::Prev => Ok(read_of_tag(tokens, setup, OfTag::Prev)),
+        Verb::Next => Ok(read_tag_event(tokens, setup, TagForm::Next)),
+        Verb::Prev => Ok(read_tag_event(tokens, setup, TagForm::Prev)),
         Verb::Tail => Ok(read_tail(tokens, setup)),
-        Verb::TrimTag => Ok(read_of_tag(tokens, setup, OfTag::TrimTag)),
+        Verb::TrimTag => Ok(read_tag_event(tokens, setup, TagForm::TrimTag)),
         Verb::Settled => read_settled(alloc, tokens, setup),
         Verb::SetAux => Ok(read_set_aux(tokens, setup)),
         Verb::GetAux => Ok(read_get_aux(tokens, setup)),
@@ -128,33 +128,34 @@ fn read_plain(
 }
 
 /// An event that calls no function.
-fn callless_entry(event: Option<Rated<Event>>) -> Option<Rated<Entry>>
-    ensures { result ≡ plain event }
+fn entry_of_plain_event(event: Option<Checked<Event>>) -> Option<Checked<Entry>>
+    ensures { result ≡ entry_of_event event }
 {
     match event {
-        Some(Rated::Fine(event)) => Some(Rated::Fine(Entry { event, fault: None })),
-        Some(Rated::Wide) => Some(Rated::Wide),
-        Some(Rated::Deep) => Some(Rated::Deep),
+        Some(Checked::Valid(event)) => Some(Checked::Valid(Entry { event, fault: None })),
+        Some(Checked::OutOfRange) => Some(Checked::OutOfRange),
+        Some(Checked::TooDeep) => Some(Checked::TooDeep),
         None => None,
     }
 }
 
-/// The event behind the word that a line of events begins with; None where it is none. `Memory` comes where there is no room for it.
-pub(crate) fn read_worded(
+/// The event behind the word that a line of events begins with, below a setup and functions, with what is wrong with its call; None
+/// where it is none. It needs fewer than 2^32 functions. `Memory` comes where there is no room for it.
+pub fn read_entry_of_word(
     alloc: Global,
     tokens: &mut Tokens,
     setup: &Setup,
     functions: &[Function],
     word: &str,
-) -> Result<Option<Rated<Entry>>, Memory>
+) -> Result<Option<Checked<Entry>>, Memory>
     requires { length functions.now < 2 ^ 32 }
-    ensures { IfOk result (λ found. found ≡ worded setup.now functions.now word.now tokens.old) }
+    ensures { IfOk result (λ found. found ≡ entry_of_word setup.now functions.now word.now tokens.old) }
 {
     if word == "submit" {
         return read_submit(alloc, tokens, setup, functions);
     }
     match verb_of_text(word) {
-        Some(verb) => Ok(callless_entry(read_plain(alloc, tokens, setup, verb)?)),
+        Some(verb) => Ok(entry_of_plain_event(read_event_of_verb(alloc, tokens, setup, verb)?)),
         None => Ok(None),
     }
 }

@@ -1,20 +1,21 @@
 //! The event of a line.
 
 ghost use Rattle.std.specs.Prelude.{◌≡◌, IfOk};
-ghost use Rattle.script_lang.specs.Stream.{behind};
-ghost use Rattle.script_lang.specs.Statements.{map_rated};
-ghost use Rattle.plan_lang.specs.Events.{engine_made, attempt_made, tag_made, engine_at, attempt_at, request_at, engine_of, attempt_of, tag_of, copy_of, start_of, switch_of};
+ghost use Rattle.line_text.specs.Stream.{found_before};
+ghost use Rattle.line_text.specs.Checks.{map_checked};
+ghost use Rattle.plan_lang.specs.Events.{make_engine_event, make_attempt_event, make_tag_event, engine_at, attempt_at, request_at, engine_event_of, attempt_event_of, tag_event_of, copy_of, start_of, switch_of};
 
-use crate::dotted::read_path;
-use crate::fields::{only, rate_both, read_mode, read_small, read_tag, read_word};
 use boki_types::{Event, Kind, Setup};
 use lb_base::{Memory, Seqnum, Tag};
-use script_lang::text::{Rated, Tokens};
+use line_text::{
+    Checked, Tokens, check_both, checked_at_end, read_mode, read_path, read_tag, read_u32_in,
+    read_u64,
+};
 use std::alloc::Global;
 
 /// An event of an engine alone.
 #[derive(Clone, Copy, Debug, PartialEq, Eq)]
-pub enum OfEngine {
+pub enum EngineForm {
     Catch,
     Restart,
     EndSwitch,
@@ -24,7 +25,7 @@ pub enum OfEngine {
 
 /// An event of an attempt alone.
 #[derive(Clone, Copy, Debug, PartialEq, Eq)]
-pub enum OfAttempt {
+pub enum AttemptForm {
     Step,
     Kill,
     Lose,
@@ -33,7 +34,7 @@ pub enum OfAttempt {
 
 /// An event of an engine, a tag and a seqnum.
 #[derive(Clone, Copy, Debug, PartialEq, Eq)]
-pub enum OfTag {
+pub enum TagForm {
     Next,
     Prev,
     TrimTag,
@@ -46,109 +47,114 @@ pub struct Entry {
     pub fault: Option<Kind>,
 }
 
-fn engine_event(form: OfEngine, engine: Rated<u32>) -> Rated<Event>
-    ensures { result ≡ map_rated (engine_made form) engine }
+fn engine_event(form: EngineForm, engine: Checked<u32>) -> Checked<Event>
+    ensures { result ≡ map_checked (make_engine_event form) engine }
 {
     match engine {
-        Rated::Fine(engine) => match form {
-            OfEngine::Catch => Rated::Fine(Event::Catch { engine }),
-            OfEngine::Restart => Rated::Fine(Event::Restart { engine }),
-            OfEngine::EndSwitch => Rated::Fine(Event::EndSwitch { engine }),
-            OfEngine::Trim => Rated::Fine(Event::Trim { engine }),
-            OfEngine::Sweep => Rated::Fine(Event::Sweep { engine }),
+        Checked::Valid(engine) => match form {
+            EngineForm::Catch => Checked::Valid(Event::Catch { engine }),
+            EngineForm::Restart => Checked::Valid(Event::Restart { engine }),
+            EngineForm::EndSwitch => Checked::Valid(Event::EndSwitch { engine }),
+            EngineForm::Trim => Checked::Valid(Event::Trim { engine }),
+            EngineForm::Sweep => Checked::Valid(Event::Sweep { engine }),
         },
-        Rated::Wide => Rated::Wide,
-        Rated::Deep => Rated::Deep,
+        Checked::OutOfRange => Checked::OutOfRange,
+        Checked::TooDeep => Checked::TooDeep,
     }
 }
 
-fn attempt_event(form: OfAttempt, attempt: Rated<u32>) -> Rated<Event>
-    ensures { result ≡ map_rated (attempt_made form) attempt }
+fn attempt_event(form: AttemptForm, attempt: Checked<u32>) -> Checked<Event>
+    ensures { result ≡ map_checked (make_attempt_event form) attempt }
 {
     match attempt {
-        Rated::Fine(attempt) => match form {
-            OfAttempt::Step => Rated::Fine(Event::Step { attempt }),
-            OfAttempt::Kill => Rated::Fine(Event::Kill { attempt }),
-            OfAttempt::Lose => Rated::Fine(Event::Lose { attempt }),
-            OfAttempt::Miss => Rated::Fine(Event::Miss { attempt }),
+        Checked::Valid(attempt) => match form {
+            AttemptForm::Step => Checked::Valid(Event::Step { attempt }),
+            AttemptForm::Kill => Checked::Valid(Event::Kill { attempt }),
+            AttemptForm::Lose => Checked::Valid(Event::Lose { attempt }),
+            AttemptForm::Miss => Checked::Valid(Event::Miss { attempt }),
         },
-        Rated::Wide => Rated::Wide,
-        Rated::Deep => Rated::Deep,
+        Checked::OutOfRange => Checked::OutOfRange,
+        Checked::TooDeep => Checked::TooDeep,
     }
 }
 
-fn tag_event(form: OfTag, parts: Rated<((u32, Tag), u64)>) -> Rated<Event>
-    ensures { result ≡ map_rated (λ p. tag_made form p.0.0 p.0.1 p.1) parts }
+fn tag_event(form: TagForm, parts: Checked<((u32, Tag), u64)>) -> Checked<Event>
+    ensures { result ≡ map_checked (λ p. make_tag_event form p.0.0 p.0.1 p.1) parts }
 {
     match parts {
-        Rated::Fine(((engine, tag), n)) => match form {
-            OfTag::Next => Rated::Fine(Event::Next {
+        Checked::Valid(((engine, tag), n)) => match form {
+            TagForm::Next => Checked::Valid(Event::Next {
                 engine,
                 tag,
                 from: Seqnum(n),
             }),
-            OfTag::Prev => Rated::Fine(Event::Prev {
+            TagForm::Prev => Checked::Valid(Event::Prev {
                 engine,
                 tag,
                 upto: Seqnum(n),
             }),
-            OfTag::TrimTag => Rated::Fine(Event::TrimTag {
+            TagForm::TrimTag => Checked::Valid(Event::TrimTag {
                 engine,
                 tag,
                 upto: Seqnum(n),
             }),
         },
-        Rated::Wide => Rated::Wide,
-        Rated::Deep => Rated::Deep,
+        Checked::OutOfRange => Checked::OutOfRange,
+        Checked::TooDeep => Checked::TooDeep,
     }
 }
 
-pub(crate) fn read_engine(tokens: &mut Tokens, setup: &Setup) -> Option<Rated<u32>>
-    ensures { behind tokens.new result ≡ engine_at setup.now tokens.old }
+/// The engine's number that stands first, from 1 to the number of engines of a setup; None where no numeral does.
+pub fn read_engine(tokens: &mut Tokens, setup: &Setup) -> Option<Checked<u32>>
+    ensures { found_before tokens.new result ≡ engine_at setup.now tokens.old }
 {
-    read_small(tokens, 1, setup.engines)
+    read_u32_in(tokens, 1, setup.engines)
 }
 
-fn read_attempt(tokens: &mut Tokens) -> Option<Rated<u32>>
-    ensures { behind tokens.new result ≡ attempt_at tokens.old }
+fn read_attempt(tokens: &mut Tokens) -> Option<Checked<u32>>
+    ensures { found_before tokens.new result ≡ attempt_at tokens.old }
 {
-    read_small(tokens, 1, 4096)
+    read_u32_in(tokens, 1, 4096)
 }
 
 /// The request's number that stands first, from 1 to 1,048,575; None where no numeral does.
-pub(crate) fn read_request(tokens: &mut Tokens) -> Option<Rated<u32>>
-    ensures { behind tokens.new result ≡ request_at tokens.old }
+pub fn read_request(tokens: &mut Tokens) -> Option<Checked<u32>>
+    ensures { found_before tokens.new result ≡ request_at tokens.old }
 {
-    read_small(tokens, 1, 1048575)
+    read_u32_in(tokens, 1, 1048575)
 }
 
 /// `E`, behind the word.
-pub(crate) fn read_of_engine(
+pub(crate) fn read_engine_event(
     tokens: &mut Tokens,
     setup: &Setup,
-    form: OfEngine,
-) -> Option<Rated<Event>>
-    ensures { result ≡ engine_of (engine_made form) setup.now tokens.old }
+    form: EngineForm,
+) -> Option<Checked<Event>>
+    ensures { result ≡ engine_event_of (make_engine_event form) setup.now tokens.old }
 {
     match read_engine(tokens, setup) {
-        Some(engine) => only(tokens, engine_event(form, engine)),
+        Some(engine) => checked_at_end(tokens, engine_event(form, engine)),
         None => None,
     }
 }
 
 /// `A`, behind the word.
-pub(crate) fn read_of_attempt(tokens: &mut Tokens, form: OfAttempt) -> Option<Rated<Event>>
-    ensures { result ≡ attempt_of (attempt_made form) tokens.old }
+pub(crate) fn read_attempt_event(tokens: &mut Tokens, form: AttemptForm) -> Option<Checked<Event>>
+    ensures { result ≡ attempt_event_of (make_attempt_event form) tokens.old }
 {
     match read_attempt(tokens) {
-        Some(attempt) => only(tokens, attempt_event(form, attempt)),
+        Some(attempt) => checked_at_end(tokens, attempt_event(form, attempt)),
         None => None,
     }
 }
 
 /// `E T N`, behind the word.
-pub(crate) fn read_of_tag(tokens: &mut Tokens, setup: &Setup, form: OfTag) -> Option<Rated<Event>>
-    ensures { result ≡ tag_of (tag_made form) setup.now tokens.old }
+pub(crate) fn read_tag_event(
+    tokens: &mut Tokens,
+    setup: &Setup,
+    form: TagForm,
+) -> Option<Checked<Event>>
+    ensures { result ≡ tag_event_of (make_tag_event form) setup.now tokens.old }
 {
     let Some(engine) = read_engine(tokens, setup) else {
         return None;
@@ -156,34 +162,34 @@ pub(crate) fn read_of_tag(tokens: &mut Tokens, setup: &Setup, form: OfTag) -> Op
     let Some(tag) = read_tag(tokens) else {
         return None;
     };
-    match read_word(tokens) {
-        Some(n) => only(
+    match read_u64(tokens) {
+        Some(n) => checked_at_end(
             tokens,
-            tag_event(form, rate_both(rate_both(engine, tag), n)),
+            tag_event(form, check_both(check_both(engine, tag), n)),
         ),
         None => None,
     }
 }
 
 /// `S R N`, behind the word.
-pub(crate) fn read_copy(tokens: &mut Tokens, setup: &Setup) -> Option<Rated<Event>>
+pub(crate) fn read_copy(tokens: &mut Tokens, setup: &Setup) -> Option<Checked<Event>>
     ensures { result ≡ copy_of setup.now tokens.old }
 {
-    let Some(shard) = read_small(tokens, 1, setup.shards) else {
+    let Some(shard) = read_u32_in(tokens, 1, setup.shards) else {
         return None;
     };
-    let Some(replica) = read_small(tokens, 2, setup.replicas) else {
+    let Some(replica) = read_u32_in(tokens, 2, setup.replicas) else {
         return None;
     };
-    let Some(n) = read_word(tokens) else {
+    let Some(n) = read_u64(tokens) else {
         return None;
     };
-    let event = match rate_both(rate_both(shard, replica), n) {
-        Rated::Fine(((shard, replica), n)) => Rated::Fine(Event::Copy { shard, replica, n }),
-        Rated::Wide => Rated::Wide,
-        Rated::Deep => Rated::Deep,
+    let event = match check_both(check_both(shard, replica), n) {
+        Checked::Valid(((shard, replica), n)) => Checked::Valid(Event::Copy { shard, replica, n }),
+        Checked::OutOfRange => Checked::OutOfRange,
+        Checked::TooDeep => Checked::TooDeep,
     };
-    only(tokens, event)
+    checked_at_end(tokens, event)
 }
 
 /// `A P E`, behind the word.
@@ -191,7 +197,7 @@ pub(crate) fn read_start(
     alloc: Global,
     tokens: &mut Tokens,
     setup: &Setup,
-) -> Result<Option<Rated<Event>>, Memory>
+) -> Result<Option<Checked<Event>>, Memory>
     ensures { IfOk result (λ found. found ≡ start_of setup.now tokens.old) }
 {
     let Some(attempt) = read_attempt(tokens) else {
@@ -203,20 +209,20 @@ pub(crate) fn read_start(
     let Some(engine) = read_engine(tokens, setup) else {
         return Ok(None);
     };
-    let event = match rate_both(rate_both(attempt, path), engine) {
-        Rated::Fine(((attempt, path), engine)) => Rated::Fine(Event::Start {
+    let event = match check_both(check_both(attempt, path), engine) {
+        Checked::Valid(((attempt, path), engine)) => Checked::Valid(Event::Start {
             attempt,
             path,
             engine,
         }),
-        Rated::Wide => Rated::Wide,
-        Rated::Deep => Rated::Deep,
+        Checked::OutOfRange => Checked::OutOfRange,
+        Checked::TooDeep => Checked::TooDeep,
     };
-    Ok(only(tokens, event))
+    Ok(checked_at_end(tokens, event))
 }
 
 /// `E M`, behind the word.
-pub(crate) fn read_switch(tokens: &mut Tokens, setup: &Setup) -> Option<Rated<Event>>
+pub(crate) fn read_switch(tokens: &mut Tokens, setup: &Setup) -> Option<Checked<Event>>
     ensures { result ≡ switch_of setup.now tokens.old }
 {
     let Some(engine) = read_engine(tokens, setup) else {
@@ -226,9 +232,9 @@ pub(crate) fn read_switch(tokens: &mut Tokens, setup: &Setup) -> Option<Rated<Ev
         return None;
     };
     let event = match engine {
-        Rated::Fine(engine) => Rated::Fine(Event::Switch { engine, target }),
-        Rated::Wide => Rated::Wide,
-        Rated::Deep => Rated::Deep,
+        Checked::Valid(engine) => Checked::Valid(Event::Switch { engine, target }),
+        Checked::OutOfRange => Checked::OutOfRange,
+        Checked::TooDeep => Checked::TooDeep,
     };
-    only(tokens, event)
+    checked_at_end(tokens, event)
 }

@@ -1,7 +1,7 @@
 //! The generator of plans.
 
 ghost use Rattle.std.specs.Prelude.{◌≡◌, ◌≤◌, ◌<◌, ◌++◌, ◌∷◌, [], ◌+◌, ◌%◌, IfOk, OnOk, codes};
-ghost use Rattle.plan_lang.specs.Generated.{account, accounts, move as mover, move_lines, giver, taker, move_args, move_items, all_moves, transfers};
+ghost use Rattle.plan_lang.specs.Generated.{account, accounts, move as mover, move_lines, source_digit, target_digit, move_args, move_items, all_moves, transfers};
 
 use boki_types::{BinOp, Event, Expr, Function, Item, Plan, Program, Setup, Stmt};
 use lb_base::{List, Memory, Mode, Path, Value, Words};
@@ -41,18 +41,38 @@ fn two_variables(alloc: Global, op: BinOp, left: &str, right: &str) -> Result<Ex
 }
 
 /// `let V = read N`
-fn read_line(alloc: Global, name: &str, object: &str) -> Result<Stmt, Memory>
+fn account_read(alloc: Global, name: &str, object: &str) -> Result<Stmt, Memory>
     ensures { IfOk result (λ line. line ≡ Stmt.Read name.now (Expr.Var object.now)) }
 {
     Ok(Stmt::Read(Words::from_text(alloc, name)?, variable(alloc, object)?))
 }
 
 /// `write N, V op n`
-fn write_line(alloc: Global, object: &str, op: BinOp, value: &str) -> Result<Stmt, Memory>
+fn account_write(alloc: Global, object: &str, op: BinOp, value: &str) -> Result<Stmt, Memory>
     ensures { IfOk result (λ line. line ≡ Stmt.Write (Expr.Var object.now) (Expr.Two op (Expr.Var value.now) (Expr.Var (codes "n")))) }
 {
     let object = variable(alloc, object)?;
     Ok(Stmt::Write(object, two_variables(alloc, op, value, "n")?))
+}
+
+/// Adds the line `let V = read N`.
+fn push_read(alloc: Global, lines: &mut List<Stmt>, name: &str, object: &str) -> Result<(), Memory>
+    ensures { OnOk result (lines.new ≡ lines.old ++ Stmt.Read name.now (Expr.Var object.now) ∷ []) }
+{
+    lines.push(account_read(alloc, name, object)?)
+}
+
+/// Adds the line `write N, V op n`.
+fn push_write(
+    alloc: Global,
+    lines: &mut List<Stmt>,
+    object: &str,
+    op: BinOp,
+    value: &str,
+) -> Result<(), Memory>
+    ensures { OnOk result (lines.new ≡ lines.old ++ Stmt.Write (Expr.Var object.now) (Expr.Two op (Expr.Var value.now) (Expr.Var (codes "n"))) ∷ []) }
+{
+    lines.push(account_write(alloc, object, op, value)?)
 }
 
 /// The lines of the function.
@@ -60,10 +80,10 @@ fn make_lines(alloc: Global) -> Result<List<Stmt>, Memory>
     ensures { IfOk result (λ lines. lines ≡ move_lines) }
 {
     let mut lines = List::new(alloc);
-    lines.push(read_line(alloc, "x", "a")?)?;
-    lines.push(read_line(alloc, "y", "b")?)?;
-    lines.push(write_line(alloc, "a", BinOp::Sub, "x")?)?;
-    lines.push(write_line(alloc, "b", BinOp::Add, "y")?)?;
+    push_read(alloc, &mut lines, "x", "a")?;
+    push_read(alloc, &mut lines, "y", "b")?;
+    push_write(alloc, &mut lines, "a", BinOp::Sub, "x")?;
+    push_write(alloc, &mut lines, "b", BinOp::Add, "y")?;
     lines.push(Stmt::Return(two_variables(alloc, BinOp::Sub, "x", "n")?))?;
     Ok(lines)
 }
@@ -98,17 +118,17 @@ fn make_functions(alloc: Global) -> Result<List<Function>, Memory>
 }
 
 /// The digit of the account that a transfer takes from.
-fn giver_of(i: u32) -> u32
-    ensures { result ≡ giver i }
+fn source_digit_of(i: u32) -> u32
+    ensures { result ≡ source_digit i }
 {
     i % 10
 }
 
 /// The digit of the account that a transfer adds to.
-fn taker_of(i: u32) -> u32
-    ensures { result ≡ taker i }
+fn target_digit_of(i: u32) -> u32
+    ensures { result ≡ target_digit i }
 {
-    (giver_of(i) + 1 + (i / 10) % 9) % 10
+    (source_digit_of(i) + 1 + (i / 10) % 9) % 10
 }
 
 /// The arguments of a transfer: two accounts, and the amount.
@@ -116,8 +136,8 @@ fn make_args(alloc: Global, i: u32) -> Result<List<Value>, Memory>
     ensures { IfOk result (λ args. args ≡ move_args i) }
 {
     let mut args = List::new(alloc);
-    args.push(Value::Text(account_name(alloc, giver_of(i))?))?;
-    args.push(Value::Text(account_name(alloc, taker_of(i))?))?;
+    args.push(Value::Text(account_name(alloc, source_digit_of(i))?))?;
+    args.push(Value::Text(account_name(alloc, target_digit_of(i))?))?;
     args.push(Value::Int(i64::from(i % 7)))?;
     Ok(args)
 }

@@ -3,12 +3,9 @@
 #![tactic(auto)]
 
 mod bodies;
-mod dotted;
 mod drafts;
 mod entries;
 mod events;
-mod fault;
-mod fields;
 mod generator;
 mod heads;
 pub mod laws;
@@ -18,16 +15,14 @@ mod plan_text;
 mod printing;
 mod records;
 mod report;
-mod tags;
-#[cfg(test)]
-mod tests;
+pub mod text;
 mod turns;
 mod validity;
 mod verb;
 
 pub use boki_types::{Event, Item, Kind, Plan, Report, Setup, Turn, TurnText};
-pub use fault::PlanFault;
 pub use generator::make_plan;
+pub use line_text::TextFault as PlanFault;
 pub use parsing::{parse_plan, parse_turns};
 pub use plan_text::print_plan;
 pub use printing::print_event;

@@ -13,7 +13,7 @@ use std::alloc::Global;
 use std::collections::HashSet;
 
 /// The number at a place, or 0 where there is none.
-fn line_at(lines: &[u64], at: usize) -> u64
+fn line_number_at(lines: &[u64], at: usize) -> u64
     ensures { result ≡ get_or lines.now at 0 }
 {
     match lines.get(at) {
@@ -35,15 +35,15 @@ fn first_object_fault(
         let name = objects[i].0.as_str();
         let added = seen.insert(name)?;
         if !added {
-            return Ok(Some((line_at(lines, i), Kind::Name)));
+            return Ok(Some((line_number_at(lines, i), Kind::Name)));
         }
     }
     Ok(None)
 }
 
-/// What the second pass finds first: a fault of the objects, or else of the functions, or else this one of what stands behind
-/// them.
-pub(crate) fn first_fault_of(
+/// What the second pass over a text finds first: an object whose name one above it has, or else what `first_name_fault` finds in
+/// the functions, or else `rest`, the first fault of what stands behind the head. `Memory` comes where there is no room for the names.
+pub fn first_fault_of(
     alloc: Global,
     head: &Head,
     rest: Option<(u64, Kind)>,
@@ -55,7 +55,7 @@ pub(crate) fn first_fault_of(
         return Ok(Some(fault));
     }
     let functions = head.draft.functions.as_slice();
-    match first_name_fault(alloc, functions, head.draft.marks.as_slice())? {
+    match first_name_fault(alloc, functions, head.draft.line_numbers.as_slice())? {
         Some(fault) => Ok(Some(fault)),
         None => Ok(rest),
     }

@@ -1,33 +1,24 @@
 //! The texts of plans and of turns.
 
 ghost use Rattle.std.specs.Prelude.{◌≡◌, ◌^◌, ◌<◌, length};
-ghost use Rattle.plan_lang.specs.Texts.{Gives, AddGives, at_line, whole_line, plan_line, head_fault, plan_made, plan_named, plan_ended, plan_of};
-ghost use Rattle.plan_lang.specs.Turns.{turn_line, turns_named, turns_ended, turns_of};
+ghost use Rattle.line_text.specs.Faults.{Gives, AddGives};
+ghost use Rattle.line_text.specs.Texts.{read_text_line};
+ghost use Rattle.plan_lang.specs.Texts.{plan_line, head_fault, plan_of_parts, plan_or_fault, plan_at_end, plan_of};
+ghost use Rattle.plan_lang.specs.Turns.{turn_draft_line, turns_or_fault, turns_at_end, turns_of};
 
-use crate::bodies::Body;
-use crate::drafts::{PlanDraft, TurnDraft, fault_of_cut};
-use crate::fault::PlanFault;
+use crate::bodies::PlanBody;
+use crate::drafts::{PlanDraft, TurnDraft};
 use crate::heads::Head;
 use crate::naming::first_fault_of;
 use boki_types::{Item, Kind, Plan, Program, Turn, TurnText};
 use lb_base::List;
-use script_lang::text::{LineFault, split_line};
+use line_text::{TextFault as PlanFault, fault_of_unended_line, fault_on_line, split_line};
 use std::alloc::Global;
 
 /// The most bytes of a plan's text.
 const MOST_PLAN: usize = 1048576;
 /// The most bytes of a text of turns.
 const MOST_TURNS: usize = 16777216;
-
-/// The fault of a line with this number.
-fn fault_at(line: u64, fault: LineFault) -> PlanFault
-    ensures { result ≡ at_line line fault }
-{
-    match fault {
-        LineFault::Refused(kind) => PlanFault::Refused { line, kind },
-        LineFault::Memory => PlanFault::Memory,
-    }
-}
 
 fn add_plan_line(
     alloc: Global,
@@ -36,20 +27,20 @@ fn add_plan_line(
     line: &[u8],
 ) -> Result<PlanDraft, PlanFault>
     requires { length draft.head.draft.functions < 2 ^ 32 }
-    ensures { AddGives result number (whole_line plan_line 65536 number line.now draft) }
+    ensures { AddGives result number (read_text_line plan_line 65536 number line.now draft) }
 {
     match draft.add_line(alloc, number, line) {
         Ok(draft) => Ok(draft),
-        Err(fault) => Err(fault_at(number, fault)),
+        Err(fault) => Err(fault_on_line(number, fault)),
     }
 }
 
 /// The plan of a head and items.
 fn plan_of_head(head: Head, items: List<Item>) -> Plan
-    ensures { result ≡ plan_made head items }
+    ensures { result ≡ plan_of_parts head items }
 {
     let Head {
-        due: _,
+        expected: _,
         setup,
         objects,
         lines: _,
@@ -66,43 +57,46 @@ fn plan_of_head(head: Head, items: List<Item>) -> Plan
 }
 
 /// The plan of a head and items, where the second pass finds nothing.
-fn name_plan(
+fn plan_or_name_fault(
     alloc: Global,
     head: Head,
     items: List<Item>,
     fault: Option<(u64, Kind)>,
 ) -> Result<Plan, PlanFault>
-    ensures { Gives result (plan_named head items (head_fault head fault)) }
+    ensures { Gives result (plan_or_fault head items (head_fault head fault)) }
 {
-    match first_fault_of(alloc, &head, fault)? {
-        Some((line, kind)) => Err(PlanFault::Refused { line, kind }),
-        None => Ok(plan_of_head(head, items)),
+    match first_fault_of(alloc, &head, fault) {
+        Ok(None) => Ok(plan_of_head(head, items)),
+        Ok(Some((line, kind))) => {
+            drop((head, items));
+            Err(PlanFault::Refused { line, kind })
+        }
+        Err(_) => {
+            drop((head, items));
+            Err(PlanFault::Memory)
+        }
     }
 }
 
 /// The plan of lines that were read to the end of their text, behind the line before this number.
 fn finish_plan(alloc: Global, number: u64, draft: PlanDraft) -> Result<Plan, PlanFault>
-    ensures { Gives result (plan_ended number draft) }
+    ensures { Gives result (plan_at_end number draft) }
 {
     let PlanDraft { head, body } = draft;
-    let Body {
+    let PlanBody {
         items,
         count: _,
         block,
         fault,
     } = body;
-    if !head.has_ended() {
-        return Err(PlanFault::Refused {
+    if head.has_ended() && block.is_none() {
+        plan_or_name_fault(alloc, head, items, fault)
+    } else {
+        drop((head, items));
+        Err(PlanFault::Refused {
             line: number,
             kind: Kind::End,
-        });
-    }
-    match block {
-        Some(_) => Err(PlanFault::Refused {
-            line: number,
-            kind: Kind::End,
-        }),
-        None => name_plan(alloc, head, items, fault),
+        })
     }
 }
 
@@ -137,7 +131,7 @@ pub fn parse_plan(alloc: Global, bytes: &[u8]) -> Result<Plan, PlanFault>
     if !rest.is_empty() {
         return Err(PlanFault::Refused {
             line: number,
-            kind: fault_of_cut(65536, number, rest),
+            kind: fault_of_unended_line(65536, number, rest),
         });
     }
     finish_plan(alloc, number, draft)
@@ -150,40 +144,48 @@ fn add_turn_line(
     line: &[u8],
 ) -> Result<TurnDraft, PlanFault>
     requires { length draft.head.draft.functions < 2 ^ 32 }
-    ensures { AddGives result number (whole_line turn_line 300000 number line.now draft) }
+    ensures { AddGives result number (read_text_line turn_draft_line 300000 number line.now draft) }
 {
     match draft.add_line(alloc, number, line) {
         Ok(draft) => Ok(draft),
-        Err(fault) => Err(fault_at(number, fault)),
+        Err(fault) => Err(fault_on_line(number, fault)),
     }
 }
 
 /// The turns behind a head, where the second pass finds nothing.
-fn name_turns(
+fn turns_or_name_fault(
     alloc: Global,
     head: Head,
     turns: List<(u64, Turn)>,
     fault: Option<(u64, Kind)>,
 ) -> Result<TurnText, PlanFault>
-    ensures { Gives result (turns_named head turns (head_fault head fault)) }
+    ensures { Gives result (turns_or_fault head turns (head_fault head fault)) }
 {
-    match first_fault_of(alloc, &head, fault)? {
-        Some((line, kind)) => Err(PlanFault::Refused { line, kind }),
-        None => Ok(TurnText {
+    match first_fault_of(alloc, &head, fault) {
+        Ok(None) => Ok(TurnText {
             plan: plan_of_head(head, List::new(alloc)),
             turns,
         }),
+        Ok(Some((line, kind))) => {
+            drop((head, turns));
+            Err(PlanFault::Refused { line, kind })
+        }
+        Err(_) => {
+            drop((head, turns));
+            Err(PlanFault::Memory)
+        }
     }
 }
 
 /// The turns of lines that were read to the end of their text, behind the line before this number.
 fn finish_turns(alloc: Global, number: u64, draft: TurnDraft) -> Result<TurnText, PlanFault>
-    ensures { Gives result (turns_ended number draft) }
+    ensures { Gives result (turns_at_end number draft) }
 {
     let TurnDraft { head, turns, fault } = draft;
     if head.has_ended() {
-        name_turns(alloc, head, turns, fault)
+        turns_or_name_fault(alloc, head, turns, fault)
     } else {
+        drop((head, turns));
         Err(PlanFault::Refused {
             line: number,
             kind: Kind::End,
@@ -216,7 +218,7 @@ pub fn parse_turns(alloc: Global, bytes: &[u8]) -> Result<TurnText, PlanFault>
     if !rest.is_empty() {
         return Err(PlanFault::Refused {
             line: number,
-            kind: fault_of_cut(300000, number, rest),
+            kind: fault_of_unended_line(300000, number, rest),
         });
     }
     finish_turns(alloc, number, draft)

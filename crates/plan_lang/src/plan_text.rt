@@ -3,7 +3,7 @@
 ghost use Rattle.std.specs.Prelude.{◌≡◌, ◌++◌, IfOk, codes, flat_map};
 ghost use Rattle.std.specs.String.{string_bytes};
 ghost use Rattle.script_lang.specs.Printed.{function_text};
-ghost use Rattle.plan_lang.specs.Printed.{inner_line, item_text, newer_text, setup_text, valued_line, head_text, plan_text};
+ghost use Rattle.plan_lang.specs.Printed.{repeat_line, item_text, newer_text, setup_text, name_value_line, head_text, plan_text};
 
 use crate::printing::event_string;
 use boki_types::{Event, Function, Item, Plan, Setup};
@@ -12,8 +12,12 @@ use script_lang::print_function;
 use std::alloc::Global;
 
 /// The lines of the events of a repeat.
-fn inner_string(alloc: Global, functions: &[Function], events: &[Event]) -> Result<String, Memory>
-    ensures { IfOk result (λ s. string_bytes s ≡ flat_map (inner_line functions.now) events.now) }
+fn repeat_lines_string(
+    alloc: Global,
+    functions: &[Function],
+    events: &[Event],
+) -> Result<String, Memory>
+    ensures { IfOk result (λ s. string_bytes s ≡ flat_map (repeat_line functions.now) events.now) }
 {
     let mut out = String::new(alloc);
     'events: for event in events {
@@ -35,7 +39,7 @@ fn item_string(alloc: Global, functions: &[Function], item: &Item) -> Result<Str
         }
         Item::Repeat(times, events) => {
             let times = *times;
-            let lines = inner_string(alloc, functions, events.as_slice())?;
+            let lines = repeat_lines_string(alloc, functions, events.as_slice())?;
             Ok(format!(in alloc; "repeat {times}\n{lines}end\n")?)
         }
     }
@@ -53,13 +57,14 @@ fn items_string(alloc: Global, functions: &[Function], items: &[Item]) -> Result
     Ok(out)
 }
 
-/// The lines of names with their values, each behind a word, which has a space behind it.
-pub(crate) fn valued_string(
+/// The lines of names with their values, each behind a word, which is to have a space behind it. `Memory` comes where there is no
+/// room for them.
+pub fn name_value_lines(
     alloc: Global,
     word: &str,
     pairs: &[(Words, Value)],
 ) -> Result<String, Memory>
-    ensures { IfOk result (λ s. string_bytes s ≡ flat_map (valued_line word.now) pairs.now) }
+    ensures { IfOk result (λ s. string_bytes s ≡ flat_map (name_value_line word.now) pairs.now) }
 {
     let mut out = String::new(alloc);
     'pairs: for pair in pairs {
@@ -104,12 +109,13 @@ fn setup_string(alloc: Global, setup: &Setup) -> Result<String, Memory>
     Ok(format!(in alloc; "setup {shards} {replicas} {engines} {mode}{newer}\n")?)
 }
 
-/// All before the line that ends the head.
-fn head_string(alloc: Global, plan: &Plan) -> Result<String, Memory>
+/// The head of a plan without the line that ends it: the setup, the objects and the functions. `Memory` comes where there is no
+/// room for it.
+pub fn head_string(alloc: Global, plan: &Plan) -> Result<String, Memory>
     ensures { IfOk result (λ s. string_bytes s ≡ head_text plan.now) }
 {
     let setup = setup_string(alloc, &plan.setup)?;
-    let objects = valued_string(alloc, "object ", plan.objects.as_slice())?;
+    let objects = name_value_lines(alloc, "object ", plan.objects.as_slice())?;
     let functions = functions_string(alloc, plan.program.functions.as_slice())?;
     Ok(format!(in alloc; "{setup}{objects}{functions}")?)
 }

@@ -4,8 +4,8 @@ ghost use Rattle.std.specs.Prelude.{◌≡◌, ◌++◌, IfOk, OnOk, flat_map, o
 ghost use Rattle.std.specs.String.{string_bytes};
 ghost use Rattle.lb_base.specs.Print.{value_text};
 ghost use Rattle.boki_types.specs.Finding.{function_at};
-ghost use Rattle.script_lang.specs.Printed.{listed, comma_before};
-ghost use Rattle.plan_lang.specs.Printed.{name_at, call_text, behind_tag, tags_text, one_text, pair_text, triple_text, submit_text, start_text, switch_text, append_text, cond_text, settled_text, set_aux_text, event_text};
+ghost use Rattle.script_lang.specs.Printed.{comma_joined, comma_before};
+ghost use Rattle.plan_lang.specs.Printed.{function_name_at, call_text, behind_tag, tags_text, one_number_text, two_number_text, three_number_text, submit_text, start_text, switch_text, append_text, cond_text, settled_text, set_aux_text, event_text};
 
 use boki_types::{Event, Function, Program};
 use lb_base::{Memory, Mode, Path, Quoted, Tag, Value, Words};
@@ -24,9 +24,9 @@ pub(crate) fn function_of(functions: &[Function], number: u32) -> Option<&Functi
     function_in(functions, number as usize)
 }
 
-/// The name of a function, by its number; none where there is no such function.
-pub(crate) fn function_name(functions: &[Function], number: u32) -> &str
-    ensures { result.now ≡ name_at functions.now number }
+/// The name of a function, by its number; it is empty where there is no such function.
+pub fn function_name(functions: &[Function], number: u32) -> &str
+    ensures { result.now ≡ function_name_at functions.now number }
 {
     match function_of(functions, number) {
         Some(function) => function.name.as_str(),
@@ -35,7 +35,7 @@ pub(crate) fn function_name(functions: &[Function], number: u32) -> &str
 }
 
 /// Adds a text, with a comma before it where it isn't the first.
-fn push_listed(out: &mut String, first: bool, text: &str) -> Result<(), Memory>
+fn push_with_comma(out: &mut String, first: bool, text: &str) -> Result<(), Memory>
     ensures { OnOk result (string_bytes out.new ≡ string_bytes out.old ++ comma_before first text.now) }
 {
     if first {
@@ -47,22 +47,23 @@ fn push_listed(out: &mut String, first: bool, text: &str) -> Result<(), Memory>
     Ok(())
 }
 
-/// Values with commas between them.
-pub(crate) fn values_string(alloc: Global, values: &[Value]) -> Result<String, Memory>
-    ensures { IfOk result (λ s. string_bytes s ≡ listed value_text values.now) }
+/// Values, with `, ` between them. `Memory` comes where there is no room for them.
+pub fn values_string(alloc: Global, values: &[Value]) -> Result<String, Memory>
+    ensures { IfOk result (λ s. string_bytes s ≡ comma_joined value_text values.now) }
 {
     let mut out = String::new(alloc);
     let mut first = true;
     'values: for value in values {
         let text = value.to_string(alloc)?;
-        push_listed(&mut out, first, text.as_str())?;
+        push_with_comma(&mut out, first, text.as_str())?;
         first = false;
     }
     Ok(out)
 }
 
-/// A call of a function, by its number.
-pub(crate) fn call_string(
+/// A call `F(VALUE, ..)` of a function, by its number. A function that isn't there is printed without a name. `Memory` comes where
+/// there is no room for it.
+pub fn call_string(
     alloc: Global,
     functions: &[Function],
     function: u32,
@@ -88,8 +89,8 @@ fn behind_tags(alloc: Global, tags: &[Tag]) -> Result<String, Memory>
     Ok(out)
 }
 
-/// Tags, with commas between them.
-fn tags_string(alloc: Global, tags: &[Tag]) -> Result<String, Memory>
+/// Tags, with commas between them and no space. `Memory` comes where there is no room for them.
+pub fn tags_string(alloc: Global, tags: &[Tag]) -> Result<String, Memory>
     ensures { IfOk result (λ s. string_bytes s ≡ tags_text tags.now) }
 {
     match tags {
@@ -103,20 +104,20 @@ fn tags_string(alloc: Global, tags: &[Tag]) -> Result<String, Memory>
 }
 
 /// A number behind a word, which has a space behind it.
-fn one_string(alloc: Global, word: &str, n: u64) -> Result<String, Memory>
-    ensures { IfOk result (λ s. string_bytes s ≡ one_text word.now n) }
+fn one_number_string(alloc: Global, word: &str, n: u64) -> Result<String, Memory>
+    ensures { IfOk result (λ s. string_bytes s ≡ one_number_text word.now n) }
 {
     Ok(format!(in alloc; "{word}{n}")?)
 }
 
-fn pair_string(alloc: Global, word: &str, n: u64, m: u64) -> Result<String, Memory>
-    ensures { IfOk result (λ s. string_bytes s ≡ pair_text word.now n m) }
+fn two_number_string(alloc: Global, word: &str, n: u64, m: u64) -> Result<String, Memory>
+    ensures { IfOk result (λ s. string_bytes s ≡ two_number_text word.now n m) }
 {
     Ok(format!(in alloc; "{word}{n} {m}")?)
 }
 
-fn triple_string(alloc: Global, word: &str, n: u64, m: u64, k: u64) -> Result<String, Memory>
-    ensures { IfOk result (λ s. string_bytes s ≡ triple_text word.now n m k) }
+fn three_number_string(alloc: Global, word: &str, n: u64, m: u64, k: u64) -> Result<String, Memory>
+    ensures { IfOk result (λ s. string_bytes s ≡ three_number_text word.now n m k) }
 {
     Ok(format!(in alloc; "{word}{n} {m} {k}")?)
 }
@@ -204,7 +205,7 @@ pub(crate) fn event_string(
             *function,
             args.as_slice(),
         ),
-        Event::Copy { shard, replica, n } => triple_string(
+        Event::Copy { shard, replica, n } => three_number_string(
             alloc,
             "copy ",
             u64::from(*shard),
@@ -212,22 +213,22 @@ pub(crate) fn event_string(
             *n,
         ),
         Event::Cut => Ok(String::from_str(alloc, "cut")?),
-        Event::Catch { engine } => one_string(alloc, "catch ", u64::from(*engine)),
+        Event::Catch { engine } => one_number_string(alloc, "catch ", u64::from(*engine)),
         Event::Sync => Ok(String::from_str(alloc, "sync")?),
-        Event::Restart { engine } => one_string(alloc, "restart ", u64::from(*engine)),
+        Event::Restart { engine } => one_number_string(alloc, "restart ", u64::from(*engine)),
         Event::Start {
             attempt,
             path,
             engine,
         } => start_string(alloc, *attempt, *path, *engine),
-        Event::Step { attempt } => one_string(alloc, "step ", u64::from(*attempt)),
-        Event::Kill { attempt } => one_string(alloc, "kill ", u64::from(*attempt)),
-        Event::Lose { attempt } => one_string(alloc, "lose ", u64::from(*attempt)),
-        Event::Miss { attempt } => one_string(alloc, "miss ", u64::from(*attempt)),
+        Event::Step { attempt } => one_number_string(alloc, "step ", u64::from(*attempt)),
+        Event::Kill { attempt } => one_number_string(alloc, "kill ", u64::from(*attempt)),
+        Event::Lose { attempt } => one_number_string(alloc, "lose ", u64::from(*attempt)),
+        Event::Miss { attempt } => one_number_string(alloc, "miss ", u64::from(*attempt)),
         Event::Switch { engine, target } => switch_string(alloc, *engine, *target),
-        Event::EndSwitch { engine } => one_string(alloc, "endswitch ", u64::from(*engine)),
-        Event::Trim { engine } => one_string(alloc, "trim ", u64::from(*engine)),
-        Event::Sweep { engine } => one_string(alloc, "sweep ", u64::from(*engine)),
+        Event::EndSwitch { engine } => one_number_string(alloc, "endswitch ", u64::from(*engine)),
+        Event::Trim { engine } => one_number_string(alloc, "trim ", u64::from(*engine)),
+        Event::Sweep { engine } => one_number_string(alloc, "sweep ", u64::from(*engine)),
         Event::Append { engine, tags, text } => {
             append_string(alloc, *engine, tags.as_slice(), text)
         }
@@ -238,14 +239,14 @@ pub(crate) fn event_string(
             text,
         } => cond_string(alloc, *engine, *place, tags.as_slice(), text),
         Event::Next { engine, tag, from } => {
-            triple_string(alloc, "next ", u64::from(*engine), tag.0, from.0)
+            three_number_string(alloc, "next ", u64::from(*engine), tag.0, from.0)
         }
         Event::Prev { engine, tag, upto } => {
-            triple_string(alloc, "prev ", u64::from(*engine), tag.0, upto.0)
+            three_number_string(alloc, "prev ", u64::from(*engine), tag.0, upto.0)
         }
-        Event::Tail { engine, tag } => pair_string(alloc, "tail ", u64::from(*engine), tag.0),
+        Event::Tail { engine, tag } => two_number_string(alloc, "tail ", u64::from(*engine), tag.0),
         Event::TrimTag { engine, tag, upto } => {
-            triple_string(alloc, "trimtag ", u64::from(*engine), tag.0, upto.0)
+            three_number_string(alloc, "trimtag ", u64::from(*engine), tag.0, upto.0)
         }
         Event::Settled {
             engine,
@@ -254,9 +255,9 @@ pub(crate) fn event_string(
         } => settled_string(alloc, *engine, *shard, *local),
         Event::SetAux { engine, seq, text } => set_aux_string(alloc, *engine, seq.0, text),
         Event::GetAux { engine, seq } => {
-            pair_string(alloc, "getaux ", u64::from(*engine), seq.0)
+            two_number_string(alloc, "getaux ", u64::from(*engine), seq.0)
         }
-        Event::Seed { n } => one_string(alloc, "seed ", *n),
+        Event::Seed { n } => one_number_string(alloc, "seed ", *n),
     }
 }
 

@@ -2,17 +2,22 @@
 
 ghost use Rattle.std.specs.Prelude.{◌≡◌, ◌++◌, IfOk, codes, flat_map};
 ghost use Rattle.std.specs.String.{string_bytes};
-ghost use Rattle.plan_lang.specs.Printed.{turn_text, turn_line, result_line, queue_line, valued_line, report_text};
+ghost use Rattle.plan_lang.specs.Printed.{bare_turn_text, turn_text, turn_line, result_line, queue_line, name_value_line, report_text};
 
-use crate::plan_text::valued_string;
+use crate::plan_text::name_value_lines;
 use crate::printing::{call_string, values_string};
 use boki_types::{Function, Program, Report, Turn};
 use lb_base::{List, Memory, Outcome, Path, Quoted, Value, Words};
 use std::alloc::Global;
 
-/// A turn, with the word `turn` before it.
-fn turn_string(alloc: Global, functions: &[Function], turn: &Turn) -> Result<String, Memory>
-    ensures { IfOk result (λ s. string_bytes s ≡ turn_text functions.now turn.now) }
+/// A turn of a run of these functions, without the word `turn` before it. A function that isn't there is printed without a name.
+/// `Memory` comes where there is no room for it.
+pub fn bare_turn_string(
+    alloc: Global,
+    functions: &[Function],
+    turn: &Turn,
+) -> Result<String, Memory>
+    ensures { IfOk result (λ s. string_bytes s ≡ bare_turn_text functions.now turn.now) }
 {
     match turn {
         Turn::Submit {
@@ -22,18 +27,26 @@ fn turn_string(alloc: Global, functions: &[Function], turn: &Turn) -> Result<Str
         } => {
             let request = *request;
             let call = call_string(alloc, functions, *function, args.as_slice())?;
-            Ok(format!(in alloc; "turn submit {request} {call}")?)
+            Ok(format!(in alloc; "submit {request} {call}")?)
         }
         Turn::Go { path, n } => {
             let path = *path;
             let n = *n;
-            Ok(format!(in alloc; "turn go {path} {n}")?)
+            Ok(format!(in alloc; "go {path} {n}")?)
         }
         Turn::End { path } => {
             let path = *path;
-            Ok(format!(in alloc; "turn end {path}")?)
+            Ok(format!(in alloc; "end {path}")?)
         }
     }
+}
+
+/// A turn of a run of these functions, with the word `turn` before it, as [`bare_turn_string`] has it.
+pub fn turn_string(alloc: Global, functions: &[Function], turn: &Turn) -> Result<String, Memory>
+    ensures { IfOk result (λ s. string_bytes s ≡ turn_text functions.now turn.now) }
+{
+    let turn = bare_turn_string(alloc, functions, turn)?;
+    Ok(format!(in alloc; "turn {turn}")?)
 }
 
 /// The line of a turn of a run of this program, from the word `turn` on and without its line feed. A function that the program
@@ -91,9 +104,9 @@ pub fn print_report(alloc: Global, report: &Report, program: &Program) -> Result
     let functions = program.functions.as_slice();
     let turns = turns_string(alloc, functions, report.turns.as_slice())?;
     let results = results_string(alloc, report.results.as_slice())?;
-    let objects = valued_string(alloc, "object ", report.objects.as_slice())?;
+    let objects = name_value_lines(alloc, "object ", report.objects.as_slice())?;
     let queues = queues_string(alloc, report.queues.as_slice())?;
-    let stores = valued_string(alloc, "store ", report.stores.as_slice())?;
+    let stores = name_value_lines(alloc, "store ", report.stores.as_slice())?;
     let text = format!(in alloc; "report\n{turns}{results}{objects}{queues}{stores}end\n")?;
     Ok(Words::from_string(text))
 }

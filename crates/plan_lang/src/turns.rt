@@ -1,15 +1,16 @@
 //! The turn of a line.
 
 ghost use Rattle.std.specs.Prelude.{◌≡◌, ◌^◌, ◌<◌, IfOk, length};
-ghost use Rattle.plan_lang.specs.Turns.{called, submit_of, callless, go_of, end_of, turn_by, turn_behind, turn_of};
+ghost use Rattle.plan_lang.specs.Turns.{submit_turn_entry, submit_turn_of, turn_without_call, go_turn_of, end_turn_of, turn_of_word, turn_behind, turn_of};
 
-use crate::dotted::read_path;
 use crate::entries::function_number;
 use crate::events::read_request;
-use crate::fields::{only, rate_both, read_number};
 use boki_types::{Function, Kind, Turn};
 use lb_base::{List, Memory, Value, Words};
-use script_lang::text::{Key, Rated, Token, Tokens, call_fault, read_call};
+use line_text::{
+    Checked, Keyword, Token, Tokens, check_both, checked_at_end, read_path, read_u64_in,
+};
+use script_lang::text::{call_fault, read_call};
 use std::alloc::Global;
 
 /// A turn, and what is wrong with the function that it calls.
@@ -22,7 +23,7 @@ pub struct TurnEntry {
 /// The turn of a call, with what is wrong with the call.
 fn call_turn(functions: &[Function], request: u32, call: (Words, List<Value>)) -> TurnEntry
     requires { length functions.now < 2 ^ 32 }
-    ensures { result ≡ called functions.now (request, call) }
+    ensures { result ≡ submit_turn_entry functions.now (request, call) }
 {
     let (name, args) = call;
     let function = function_number(functions, name.as_str());
@@ -42,9 +43,9 @@ fn read_submit_turn(
     alloc: Global,
     tokens: &mut Tokens,
     functions: &[Function],
-) -> Result<Option<Rated<TurnEntry>>, Memory>
+) -> Result<Option<Checked<TurnEntry>>, Memory>
     requires { length functions.now < 2 ^ 32 }
-    ensures { IfOk result (λ found. found ≡ submit_of functions.now tokens.old) }
+    ensures { IfOk result (λ found. found ≡ submit_turn_of functions.now tokens.old) }
 {
     let Some(request) = read_request(tokens) else {
         return Ok(None);
@@ -52,51 +53,51 @@ fn read_submit_turn(
     let Some(call) = read_call(alloc, tokens)? else {
         return Ok(None);
     };
-    let entry = match rate_both(request, call) {
-        Rated::Fine((request, call)) => Rated::Fine(call_turn(functions, request, call)),
-        Rated::Wide => Rated::Wide,
-        Rated::Deep => Rated::Deep,
+    let entry = match check_both(request, call) {
+        Checked::Valid((request, call)) => Checked::Valid(call_turn(functions, request, call)),
+        Checked::OutOfRange => Checked::OutOfRange,
+        Checked::TooDeep => Checked::TooDeep,
     };
-    Ok(only(tokens, entry))
+    Ok(checked_at_end(tokens, entry))
 }
 
 /// `P N`, behind `go`.
-fn read_go(alloc: Global, tokens: &mut Tokens) -> Result<Option<Rated<TurnEntry>>, Memory>
-    ensures { IfOk result (λ found. found ≡ go_of tokens.old) }
+fn read_go(alloc: Global, tokens: &mut Tokens) -> Result<Option<Checked<TurnEntry>>, Memory>
+    ensures { IfOk result (λ found. found ≡ go_turn_of tokens.old) }
 {
     let Some(path) = read_path(alloc, tokens)? else {
         return Ok(None);
     };
-    let Some(n) = read_number(tokens, 0, 200000) else {
+    let Some(n) = read_u64_in(tokens, 0, 200000) else {
         return Ok(None);
     };
-    let entry = match rate_both(path, n) {
-        Rated::Fine((path, n)) => Rated::Fine(TurnEntry {
+    let entry = match check_both(path, n) {
+        Checked::Valid((path, n)) => Checked::Valid(TurnEntry {
             turn: Turn::Go { path, n },
             fault: None,
         }),
-        Rated::Wide => Rated::Wide,
-        Rated::Deep => Rated::Deep,
+        Checked::OutOfRange => Checked::OutOfRange,
+        Checked::TooDeep => Checked::TooDeep,
     };
-    Ok(only(tokens, entry))
+    Ok(checked_at_end(tokens, entry))
 }
 
 /// `P`, behind `end`.
-fn read_end(alloc: Global, tokens: &mut Tokens) -> Result<Option<Rated<TurnEntry>>, Memory>
-    ensures { IfOk result (λ found. found ≡ end_of tokens.old) }
+fn read_end(alloc: Global, tokens: &mut Tokens) -> Result<Option<Checked<TurnEntry>>, Memory>
+    ensures { IfOk result (λ found. found ≡ end_turn_of tokens.old) }
 {
     let Some(path) = read_path(alloc, tokens)? else {
         return Ok(None);
     };
     let entry = match path {
-        Rated::Fine(path) => Rated::Fine(TurnEntry {
+        Checked::Valid(path) => Checked::Valid(TurnEntry {
             turn: Turn::End { path },
             fault: None,
         }),
-        Rated::Wide => Rated::Wide,
-        Rated::Deep => Rated::Deep,
+        Checked::OutOfRange => Checked::OutOfRange,
+        Checked::TooDeep => Checked::TooDeep,
     };
-    Ok(only(tokens, entry))
+    Ok(checked_at_end(tokens, entry))
 }
 
 fn read_turn_word(
@@ -104,9 +105,9 @@ fn read_turn_word(
     tokens: &mut Tokens,
     functions: &[Function],
     word: &str,
-) -> Result<Option<Rated<TurnEntry>>, Memory>
+) -> Result<Option<Checked<TurnEntry>>, Memory>
     requires { length functions.now < 2 ^ 32 }
-    ensures { IfOk result (λ found. found ≡ turn_by functions.now word.now tokens.old) }
+    ensures { IfOk result (λ found. found ≡ turn_of_word functions.now word.now tokens.old) }
 {
     if word == "submit" {
         read_submit_turn(alloc, tokens, functions)
@@ -122,13 +123,13 @@ fn read_behind_turn(
     alloc: Global,
     tokens: &mut Tokens,
     functions: &[Function],
-) -> Result<Option<Rated<TurnEntry>>, Memory>
+) -> Result<Option<Checked<TurnEntry>>, Memory>
     requires { length functions.now < 2 ^ 32 }
     ensures { IfOk result (λ found. found ≡ turn_behind functions.now tokens.old) }
 {
     match tokens.take() {
         Some(Token::Name(word)) => read_turn_word(alloc, tokens, functions, word.as_str()),
-        Some(Token::Key(Key::End)) => read_end(alloc, tokens),
+        Some(Token::Keyword(Keyword::End)) => read_end(alloc, tokens),
         _ => Ok(None),
     }
 }
@@ -139,7 +140,7 @@ pub(crate) fn read_turn(
     alloc: Global,
     mut tokens: Tokens,
     functions: &[Function],
-) -> Result<Option<Rated<TurnEntry>>, Memory>
+) -> Result<Option<Checked<TurnEntry>>, Memory>
     requires { length functions.now < 2 ^ 32 }
     ensures { IfOk result (λ found. found ≡ turn_of functions.now tokens) }
 {

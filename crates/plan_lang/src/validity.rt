@@ -4,16 +4,16 @@ ghost use Rattle.std.specs.Prelude.{◌≡◌, ◌&&◌, length};
 ghost use Rattle.std.specs.List.{list_all};
 ghost use Rattle.lb_base.specs.Path.{is_path, is_request};
 ghost use Rattle.boki_types.specs.Finding.{function_at};
-ghost use Rattle.boki_model.specs.Bodies.{fits, is_value, is_target};
-ghost use Rattle.boki_model.specs.Plans.{from_to, is_one_of, is_attempt, is_user_tag, are_user_tags, is_text, is_word, has_arity, is_event};
+ghost use Rattle.boki_model.specs.Bodies.{is_i64, is_u64, is_value, is_target};
+ghost use Rattle.boki_model.specs.Plans.{in_bounds, is_from_one_to, is_attempt, is_user_tag, are_user_tags, is_text, has_arity, is_event};
 
 use crate::printing::function_of;
 use boki_types::{Event, Function, Plan};
 use lb_base::{Mode, Path, Tag, Value, Words};
 
 /// Whether a number is one from 1.
-fn is_one(most: u32, n: u32) -> bool
-    ensures { result ≡ is_one_of most n }
+fn is_from_one(most: u32, n: u32) -> bool
+    ensures { result ≡ is_from_one_to most n }
 {
     1 <= n && n <= most
 }
@@ -31,20 +31,20 @@ fn is_request_number(n: u32) -> bool
 }
 
 /// Every number has 64 bits.
-fn is_wide(n: u64) -> bool
-    ensures { result ≡ is_word n }
+fn is_any_u64(n: u64) -> bool
+    ensures { result ≡ is_u64 n }
 {
     n <= u64::MAX
 }
 
 fn is_small(n: i64) -> bool
-    ensures { result ≡ fits n }
+    ensures { result ≡ is_i64 n }
 {
     n >= i64::MIN
 }
 
 /// Whether a path has its numbers in range, as every path does.
-fn is_sound(path: Path) -> bool
+fn is_path_in_range(path: Path) -> bool
     ensures { result ≡ is_path path }
 {
     path.depth() > 0
@@ -79,8 +79,8 @@ fn are_all_tags(tags: &[Tag]) -> bool
 }
 
 /// Whether there are one to eight.
-fn are_few(count: usize) -> bool
-    ensures { result ≡ from_to 1 8 count }
+fn is_one_to_eight(count: usize) -> bool
+    ensures { result ≡ in_bounds 1 8 count }
 {
     1 <= count && count <= 8
 }
@@ -88,7 +88,7 @@ fn are_few(count: usize) -> bool
 fn are_tags(tags: &[Tag]) -> bool
     ensures { result ≡ are_user_tags tags.now }
 {
-    are_few(tags.len()) && are_all_tags(tags)
+    is_one_to_eight(tags.len()) && are_all_tags(tags)
 }
 
 fn is_short(text: &Words) -> bool
@@ -125,9 +125,9 @@ fn is_submit(
     function: u32,
     args: &[Value],
 ) -> bool
-    ensures { result ≡ (is_one_of engines engine && is_request request && list_all is_value args.now && has_arity (length args.now) (function_at function functions.now)) }
+    ensures { result ≡ (is_from_one_to engines engine && is_request request && list_all is_value args.now && has_arity (length args.now) (function_at function functions.now)) }
 {
-    is_one(engines, engine)
+    is_from_one(engines, engine)
         && is_request_number(request)
         && are_values(args)
         && takes(functions, function, args.len())
@@ -160,27 +160,29 @@ pub fn valid(event: &Event, plan: &Plan) -> bool
             args.as_slice(),
         ),
         Event::Copy { shard, replica, n } => {
-            is_one(shards, *shard) && (2 <= *replica && *replica <= replicas) && is_wide(*n)
+            is_from_one(shards, *shard) && (2 <= *replica && *replica <= replicas) && is_any_u64(*n)
         }
         Event::Cut => true,
-        Event::Catch { engine } => is_one(engines, *engine),
+        Event::Catch { engine } => is_from_one(engines, *engine),
         Event::Sync => true,
-        Event::Restart { engine } => is_one(engines, *engine),
+        Event::Restart { engine } => is_from_one(engines, *engine),
         Event::Start {
             attempt,
             path,
             engine,
-        } => is_attempt_number(*attempt) && is_sound(*path) && is_one(engines, *engine),
+        } => is_attempt_number(*attempt)
+            && is_path_in_range(*path)
+            && is_from_one(engines, *engine),
         Event::Step { attempt } => is_attempt_number(*attempt),
         Event::Kill { attempt } => is_attempt_number(*attempt),
         Event::Lose { attempt } => is_attempt_number(*attempt),
         Event::Miss { attempt } => is_attempt_number(*attempt),
-        Event::Switch { engine, target } => is_one(engines, *engine) && is_first_mode(*target),
-        Event::EndSwitch { engine } => is_one(engines, *engine),
-        Event::Trim { engine } => is_one(engines, *engine),
-        Event::Sweep { engine } => is_one(engines, *engine),
+        Event::Switch { engine, target } => is_from_one(engines, *engine) && is_first_mode(*target),
+        Event::EndSwitch { engine } => is_from_one(engines, *engine),
+        Event::Trim { engine } => is_from_one(engines, *engine),
+        Event::Sweep { engine } => is_from_one(engines, *engine),
         Event::Append { engine, tags, text } => {
-            is_one(engines, *engine) && are_tags(tags.as_slice()) && is_short(text)
+            is_from_one(engines, *engine) && are_tags(tags.as_slice()) && is_short(text)
         }
         Event::Cond {
             engine,
@@ -188,32 +190,35 @@ pub fn valid(event: &Event, plan: &Plan) -> bool
             tags,
             text,
         } => {
-            is_one(engines, *engine)
-                && is_wide(*place)
+            is_from_one(engines, *engine)
+                && is_any_u64(*place)
                 && are_tags(tags.as_slice())
                 && is_short(text)
         }
         Event::Next { engine, tag, from } => {
-            is_one(engines, *engine) && is_tag(*tag) && is_wide(from.0)
+            is_from_one(engines, *engine) && is_tag(*tag) && is_any_u64(from.0)
         }
         Event::Prev { engine, tag, upto } => {
-            is_one(engines, *engine) && is_tag(*tag) && is_wide(upto.0)
+            is_from_one(engines, *engine) && is_tag(*tag) && is_any_u64(upto.0)
         }
-        Event::Tail { engine, tag } => is_one(engines, *engine) && is_tag(*tag),
+        Event::Tail { engine, tag } => is_from_one(engines, *engine) && is_tag(*tag),
         Event::TrimTag { engine, tag, upto } => {
-            is_one(engines, *engine) && is_tag(*tag) && is_wide(upto.0)
+            is_from_one(engines, *engine) && is_tag(*tag) && is_any_u64(upto.0)
         }
         Event::Settled {
             engine,
             shard,
             local,
         } => {
-            is_one(engines, *engine) && is_one(shards, *shard) && 1 <= *local && is_wide(*local)
+            is_from_one(engines, *engine)
+                && is_from_one(shards, *shard)
+                && 1 <= *local
+                && is_any_u64(*local)
         }
         Event::SetAux { engine, seq, text } => {
-            is_one(engines, *engine) && is_wide(seq.0) && is_short(text)
+            is_from_one(engines, *engine) && is_any_u64(seq.0) && is_short(text)
         }
-        Event::GetAux { engine, seq } => is_one(engines, *engine) && is_wide(seq.0),
-        Event::Seed { n } => is_wide(*n),
+        Event::GetAux { engine, seq } => is_from_one(engines, *engine) && is_any_u64(seq.0),
+        Event::Seed { n } => is_any_u64(*n),
     }
 }

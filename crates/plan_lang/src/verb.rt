@@ -37,55 +37,31 @@ pub enum Verb {
 pub(crate) fn verb_of_text(text: &str) -> Option<Verb>
     ensures { result ≡ word_of text.now }
 {
-    if text == "copy" {
-        Some(Verb::Copy)
-    } else if text == "cut" {
-        Some(Verb::Cut)
-    } else if text == "catch" {
-        Some(Verb::Catch)
-    } else if text == "sync" {
-        Some(Verb::Sync)
-    } else if text == "restart" {
-        Some(Verb::Restart)
-    } else if text == "start" {
-        Some(Verb::Start)
-    } else if text == "step" {
-        Some(Verb::Step)
-    } else if text == "kill" {
-        Some(Verb::Kill)
-    } else if text == "lose" {
-        Some(Verb::Lose)
-    } else if text == "miss" {
-        Some(Verb::Miss)
-    } else if text == "switch" {
-        Some(Verb::Switch)
-    } else if text == "endswitch" {
-        Some(Verb::EndSwitch)
-    } else if text == "trim" {
-        Some(Verb::Trim)
-    } else if text == "sweep" {
-        Some(Verb::Sweep)
-    } else if text == "append" {
-        Some(Verb::Append)
-    } else if text == "cond" {
-        Some(Verb::Cond)
-    } else if text == "next" {
-        Some(Verb::Next)
-    } else if text == "prev" {
-        Some(Verb::Prev)
-    } else if text == "tail" {
-        Some(Verb::Tail)
-    } else if text == "trimtag" {
-        Some(Verb::TrimTag)
-    } else if text == "settled" {
-        Some(Verb::Settled)
-    } else if text == "setaux" {
-        Some(Verb::SetAux)
-    } else if text == "getaux" {
-        Some(Verb::GetAux)
-    } else if text == "seed" {
-        Some(Verb::Seed)
-    } else {
-        None
+    match text {
+        "copy" => Some(Verb::Copy),
+        "cut" => Some(Verb::Cut),
+        "catch" => Some(Verb::Catch),
+        "sync" => Some(Verb::Sync),
+        "restart" => Some(Verb::Restart),
+        "start" => Some(Verb::Start),
+        "step" => Some(Verb::Step),
+        "kill" => Some(Verb::Kill),
+        "lose" => Some(Verb::Lose),
+        "miss" => Some(Verb::Miss),
+        "switch" => Some(Verb::Switch),
+        "endswitch" => Some(Verb::EndSwitch),
+        "trim" => Some(Verb::Trim),
+        "sweep" => Some(Verb::Sweep),
+        "append" => Some(Verb::Append),
+        "cond" => Some(Verb::Cond),
+        "next" => Some(Verb::Next),
+        "prev" => Some(Verb::Prev),
+        "tail" => Some(Verb::Tail),
+        "trimtag" => Some(Verb::TrimTag),
+        "settled" => Some(Verb::Settled),
+        "setaux" => Some(Verb::SetAux),
+        "getaux" => Some(Verb::GetAux),
+        "seed" => Some(Verb::Seed),
+        _ => None,
     }
 }

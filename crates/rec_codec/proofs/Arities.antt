@@ -2,7 +2,7 @@
 use Rattle.std.proofs.Common.{◌≡◌, ℕ, zero, suc, ◌+◌, ◌-◌, ◌^◌, ◌<◌, ◌≤◌, Bool, true, false, ◌&&◌, cond, eqb, ltb, leb, List, [], ◌∷◌, ◌++◌, length, get_or, Option, Some, None, Result, Ok, Err, refl, sym, ap, subst, ◌∙◌, append_assoc, arith, inl, inr}
 use Rattle.rec_codec.specs.Reading.{Reader, ◌>>=◌}
 use Rattle.boki_types.specs.declared.body.Body.{Body}
-use Rattle.rec_codec.proofs.Fields.{IsBytes, bind_ok, ok_is, Takes, Takes-then, Reads}
+use Rattle.rec_codec.proofs.Fields.{IsBytes, bind_ok, ok_is, Takes, ReadsLine-then, Reads}
 
 -- a body, and the bytes behind it
 abbrev pub built : Body → List ℕ → Result (Body × List ℕ) ℕ
@@ -49,7 +49,7 @@ two {A} {sa} {pa} {ra} {B} {sb} {pb} {rb} la lb f bytes body rest fits e =
     let t1 = lb.takes b0.0.1 b1.0.0 b1.0.1 t0.0.rest_fits b1.1 in
     let made : Body × List ℕ = (f b0.0.0 b1.0.0, b1.0.1) in
     let g = ok_is made (body, rest) b1.2 in
-    let c0 = Takes-then bytes (sa b0.0.0) b0.0.1 (sb b1.0.0) b1.0.1 t0.0 t1.0 in
+    let c0 = ReadsLine-then bytes (sa b0.0.0) b0.0.1 (sb b1.0.0) b1.0.1 t0.0 t1.0 in
     record {
       x = b0.0.0;
       y = b1.0.0;
@@ -87,8 +87,8 @@ three {A} {sa} {pa} {ra} {B} {sb} {pb} {rb} {C} {sc} {pc} {rc} la lb lc f bytes 
     let t2 = lc.takes b1.0.1 b2.0.0 b2.0.1 t1.0.rest_fits b2.1 in
     let made : Body × List ℕ = (f b0.0.0 b1.0.0 b2.0.0, b2.0.1) in
     let g = ok_is made (body, rest) b2.2 in
-    let c1 = Takes-then b0.0.1 (sb b1.0.0) b1.0.1 (sc b2.0.0) b2.0.1 t1.0 t2.0 in
-    let c0 = Takes-then bytes (sa b0.0.0) b0.0.1 (sb b1.0.0 ++ (sc b2.0.0)) b2.0.1 t0.0 c1 in
+    let c1 = ReadsLine-then b0.0.1 (sb b1.0.0) b1.0.1 (sc b2.0.0) b2.0.1 t1.0 t2.0 in
+    let c0 = ReadsLine-then bytes (sa b0.0.0) b0.0.1 (sb b1.0.0 ++ (sc b2.0.0)) b2.0.1 t0.0 c1 in
     record {
       x = b0.0.0;
       y = b1.0.0;
@@ -133,9 +133,9 @@ four {A} {sa} {pa} {ra} {B} {sb} {pb} {rb} {C} {sc} {pc} {rc} {D} {sd} {pd} {rd}
     let t3 = ld.takes b2.0.1 b3.0.0 b3.0.1 t2.0.rest_fits b3.1 in
     let made : Body × List ℕ = (f b0.0.0 b1.0.0 b2.0.0 b3.0.0, b3.0.1) in
     let g = ok_is made (body, rest) b3.2 in
-    let c2 = Takes-then b1.0.1 (sc b2.0.0) b2.0.1 (sd b3.0.0) b3.0.1 t2.0 t3.0 in
-    let c1 = Takes-then b0.0.1 (sb b1.0.0) b1.0.1 (sc b2.0.0 ++ (sd b3.0.0)) b3.0.1 t1.0 c2 in
-    let c0 = Takes-then bytes (sa b0.0.0) b0.0.1 (sb b1.0.0 ++ (sc b2.0.0 ++ (sd b3.0.0))) b3.0.1 t0.0 c1 in
+    let c2 = ReadsLine-then b1.0.1 (sc b2.0.0) b2.0.1 (sd b3.0.0) b3.0.1 t2.0 t3.0 in
+    let c1 = ReadsLine-then b0.0.1 (sb b1.0.0) b1.0.1 (sc b2.0.0 ++ (sd b3.0.0)) b3.0.1 t1.0 c2 in
+    let c0 = ReadsLine-then bytes (sa b0.0.0) b0.0.1 (sb b1.0.0 ++ (sc b2.0.0 ++ (sd b3.0.0))) b3.0.1 t0.0 c1 in
     record {
       x = b0.0.0;
       y = b1.0.0;
@@ -187,10 +187,10 @@ five {A} {sa} {pa} {ra} {B} {sb} {pb} {rb} {C} {sc} {pc} {rc} {D} {sd} {pd} {rd}
     let t4 = le.takes b3.0.1 b4.0.0 b4.0.1 t3.0.rest_fits b4.1 in
     let made : Body × List ℕ = (f b0.0.0 b1.0.0 b2.0.0 b3.0.0 b4.0.0, b4.0.1) in
     let g = ok_is made (body, rest) b4.2 in
-    let c3 = Takes-then b2.0.1 (sd b3.0.0) b3.0.1 (se b4.0.0) b4.0.1 t3.0 t4.0 in
-    let c2 = Takes-then b1.0.1 (sc b2.0.0) b2.0.1 (sd b3.0.0 ++ (se b4.0.0)) b4.0.1 t2.0 c3 in
-    let c1 = Takes-then b0.0.1 (sb b1.0.0) b1.0.1 (sc b2.0.0 ++ (sd b3.0.0 ++ (se b4.0.0))) b4.0.1 t1.0 c2 in
-    let c0 = Takes-then bytes (sa b0.0.0) b0.0.1 (sb b1.0.0 ++ (sc b2.0.0 ++ (sd b3.0.0 ++ (se b4.0.0)))) b4.0.1 t0.0 c1 in
+    let c3 = ReadsLine-then b2.0.1 (sd b3.0.0) b3.0.1 (se b4.0.0) b4.0.1 t3.0 t4.0 in
+    let c2 = ReadsLine-then b1.0.1 (sc b2.0.0) b2.0.1 (sd b3.0.0 ++ (se b4.0.0)) b4.0.1 t2.0 c3 in
+    let c1 = ReadsLine-then b0.0.1 (sb b1.0.0) b1.0.1 (sc b2.0.0 ++ (sd b3.0.0 ++ (se b4.0.0))) b4.0.1 t1.0 c2 in
+    let c0 = ReadsLine-then bytes (sa b0.0.0) b0.0.1 (sb b1.0.0 ++ (sc b2.0.0 ++ (sd b3.0.0 ++ (se b4.0.0)))) b4.0.1 t0.0 c1 in
     record {
       x = b0.0.0;
       y = b1.0.0;

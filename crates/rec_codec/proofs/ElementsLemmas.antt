@@ -17,36 +17,36 @@ use Rattle.lb_base.specs.declared.value.TrapKind.TheVariants as trap
 use Rattle.lb_base.specs.declared.value.Outcome.{Outcome}
 use Rattle.lb_base.specs.declared.value.Outcome.TheVariants.{Good, Trap}
 use Rattle.lb_base.specs.Path.{is_request, is_ordinal, are_ordinals, is_path}
-use Rattle.boki_model.specs.Bodies.{is_word, fits, is_value, is_name, is_identifier, is_word_text, reserved, is_outcome, is_target}
+use Rattle.boki_model.specs.Bodies.{is_u64, is_i64, is_value, is_name, is_identifier, has_identifier_characters, reserved_words, is_outcome, is_target}
 use Rattle.rec_codec.specs.Spelling.{word, text, path, value, outcome, trap_number, mode_number, write, is_text_value, is_text_outcome, is_text_write}
-use Rattle.rec_codec.specs.Reading.{Reader, ◌>>=◌, word_at, number_at, index_at, ordinal_at, tag_at, text_at, is_text, is_key, is_function, count_at, many_at, request_at, spawn_at, path_at, value_at, known, trap_of, trap_at, outcome_at, target_of, target_at, write_at}
-use Rattle.rec_codec.proofs.Fields.{IsBytes, IsBytes-rest, bind_ok, ok_is, Takes, Takes-then, Takes-behind, Reads, Reads-by, Reads-kept, wide32, wide64, number_reads, count_reads, text_reads, many_takes, many_again}
+use Rattle.rec_codec.specs.Reading.{Reader, ◌>>=◌, word_at, number_at, index_at, ordinal_at, tag_at, text_at, is_text, is_key, is_function, count_at, many_at, request_at, spawn_at, path_at, value_at, found_or_left, trap_of, trap_at, outcome_at, target_of, target_at, write_at}
+use Rattle.rec_codec.proofs.Fields.{IsBytes, IsBytes-rest, bind_ok, ok_is, Takes, ReadsLine-then, ReadsLine-behind, Reads, ReadsOn-by, ReadsOn-kept, wide32, wide64, number_reads, count_reads, text_reads, many_takes, many_again}
 
 -- ---- numbers in range
 
-pub word_reads : Reads ℕ word is_word word_at
+pub word_reads : Reads ℕ word is_u64 word_at
 word_reads = number_reads w64 (2 ^ 64) wide64
 
 abbrev pub is_index : ℕ → Bool
-is_index n = leb 1 n && is_word n
+is_index n = leb 1 n && is_u64 n
 
 pub index_reads : Reads ℕ word is_index index_at
 unfolding index_at
 index_reads =
-    Reads-by is_index (Reads-kept (λ n. leb 1 n) word_reads)
-    (λ n h. let p = and_parts (is_word n) (leb 1 n) h in and_from (leb 1 n) (is_word n) p.1 p.0)
-    (λ n h. let p = and_parts (leb 1 n) (is_word n) h in and_from (is_word n) (leb 1 n) p.1 p.0)
+    ReadsOn-by is_index (ReadsOn-kept (λ n. leb 1 n) word_reads)
+    (λ n h. let p = and_parts (is_u64 n) (leb 1 n) h in and_from (leb 1 n) (is_u64 n) p.1 p.0)
+    (λ n h. let p = and_parts (leb 1 n) (is_u64 n) h in and_from (is_u64 n) (leb 1 n) p.1 p.0)
 
 -- a number below a limit that is a word
-kept_below : (p : ℕ → Bool) → ((n : ℕ) → p n ≡ true → n < 2 ^ 64) → (n : ℕ) → p n ≡ true → (is_word n && p n) ≡ true
-kept_below p small n h = and_from (is_word n) (p n) (lt-ltb n (2 ^ 64) (small n h)) h
+kept_below : (p : ℕ → Bool) → ((n : ℕ) → p n ≡ true → n < 2 ^ 64) → (n : ℕ) → p n ≡ true → (is_u64 n && p n) ≡ true
+kept_below p small n h = and_from (is_u64 n) (p n) (lt-ltb n (2 ^ 64) (small n h)) h
 
 small_ordinal : (n : ℕ) → is_ordinal n ≡ true → n < 2 ^ 64
 small_ordinal n h = let p = and_parts (ltb 0 n) (ltb n 4096) h in let lt : n < 4096 = ltb-true n 4096 p.1 in omega arith
 
 pub ordinal_reads : Reads ℕ word is_ordinal ordinal_at
 unfolding ordinal_at
-ordinal_reads = Reads-by is_ordinal (Reads-kept is_ordinal word_reads) (λ n h. (and_parts (is_word n) (is_ordinal n) h).1) (kept_below is_ordinal small_ordinal)
+ordinal_reads = ReadsOn-by is_ordinal (ReadsOn-kept is_ordinal word_reads) (λ n h. (and_parts (is_u64 n) (is_ordinal n) h).1) (kept_below is_ordinal small_ordinal)
 
 abbrev pub is_user_tag : ℕ → Bool
 is_user_tag n = ltb n (2 ^ 56)
@@ -56,7 +56,7 @@ small_tag n h = let lt : n < 2 ^ 56 = ltb-true n (2 ^ 56) h in omega arith
 
 pub tag_reads : Reads ℕ word is_user_tag tag_at
 unfolding tag_at
-tag_reads = Reads-by is_user_tag (Reads-kept is_user_tag word_reads) (λ n h. (and_parts (is_word n) (is_user_tag n) h).1) (kept_below is_user_tag small_tag)
+tag_reads = ReadsOn-by is_user_tag (ReadsOn-kept is_user_tag word_reads) (λ n h. (and_parts (is_u64 n) (is_user_tag n) h).1) (kept_below is_user_tag small_tag)
 
 -- ---- texts
 
@@ -69,8 +69,8 @@ key_reads = text_reads is_key (λ t h. let le : length t ≤ 64 = leb-true (leng
 pub function_reads : Reads (List ℕ) text is_function (text_at is_function)
 function_reads = text_reads is_function (λ t h.
     let named = (and_parts (is_utf8 t) (is_identifier t) h).1 in
-    let front = (and_parts (is_word_text t && leb (length t) 32) (not (list_any (bytes_eq t) reserved)) named).0 in
-    let le : length t ≤ 32 = leb-true (length t) 32 (and_parts (is_word_text t) (leb (length t) 32) front).1 in omega arith)
+    let front = (and_parts (has_identifier_characters t && leb (length t) 32) (not (list_any (bytes_eq t) reserved_words)) named).0 in
+    let le : length t ≤ 32 = leb-true (length t) 32 (and_parts (has_identifier_characters t) (leb (length t) 32) front).1 in omega arith)
 
 -- ---- paths
 
@@ -79,12 +79,12 @@ small_part p small n h = and_from (ltb n (2 ^ 32)) (p n) (lt-ltb n (2 ^ 32) (sma
 
 request_reads : Reads ℕ (to_be_bytes w32) is_request request_at
 unfolding request_at
-request_reads = Reads-by is_request (Reads-kept is_request (number_reads w32 (2 ^ 32) wide32)) (λ n h. (and_parts (ltb n (2 ^ 32)) (is_request n) h).1)
+request_reads = ReadsOn-by is_request (ReadsOn-kept is_request (number_reads w32 (2 ^ 32) wide32)) (λ n h. (and_parts (ltb n (2 ^ 32)) (is_request n) h).1)
     (small_part is_request (λ n h. let lt : n < 1048576 = ltb-true n 1048576 (and_parts (ltb 0 n) (ltb n 1048576) h).1 in omega arith))
 
 spawn_reads : Reads ℕ (to_be_bytes w32) is_ordinal spawn_at
 unfolding spawn_at
-spawn_reads = Reads-by is_ordinal (Reads-kept is_ordinal (number_reads w32 (2 ^ 32) wide32)) (λ n h. (and_parts (ltb n (2 ^ 32)) (is_ordinal n) h).1)
+spawn_reads = ReadsOn-by is_ordinal (ReadsOn-kept is_ordinal (number_reads w32 (2 ^ 32) wide32)) (λ n h. (and_parts (ltb n (2 ^ 32)) (is_ordinal n) h).1)
     (small_part is_ordinal (λ n h. let lt : n < 4096 = ltb-true n 4096 (and_parts (ltb 0 n) (ltb n 4096) h).1 in omega arith))
 
 ordinals_are : (ns : List ℕ) → are_ordinals ns ≡ list_all is_ordinal ns
@@ -96,19 +96,19 @@ path_of most p = is_path p && leb (length p) most
 
 path_takes : (most : ℕ) → most ≤ 4 → (bytes p rest : List ℕ) → IsBytes bytes → path_at most bytes ≡ Ok (p, rest) → Takes bytes (path p) rest × (path_of most p ≡ true)
 unfolding path_at
-path_takes most le bytes p rest fits e =
+path_takes most le bytes p rest is_i64 e =
     let a = bind_ok (count_at 1 most bytes) (λ n. request_at n.1 >>= λ request. many_at spawn_at (n.0 - 1) request.1 >>= λ spawns. Ok (request.0 ∷ spawns.0, spawns.1)) (p, rest) e in
     let b = bind_ok (request_at a.0.1) (λ request. many_at spawn_at (a.0.0 - 1) request.1 >>= λ spawns. Ok (request.0 ∷ spawns.0, spawns.1)) (p, rest) a.2 in
     let c = bind_ok (many_at spawn_at (a.0.0 - 1) b.0.1) (λ spawns. Ok (b.0.0 ∷ spawns.0, spawns.1)) (p, rest) b.2 in
-    let t0 = (count_reads 1 most).takes bytes a.0.0 a.0.1 fits a.1 in
+    let t0 = (count_reads 1 most).takes bytes a.0.0 a.0.1 is_i64 a.1 in
     let t1 = request_reads.takes a.0.1 b.0.0 b.0.1 t0.0.rest_fits b.1 in
     let t2 = many_takes spawn_reads (a.0.0 - 1) b.0.1 c.0.0 c.0.1 t1.0.rest_fits c.1 in
     let bounds = and_parts (leb 1 a.0.0) (leb a.0.0 most) t0.1 in
     let low : 1 ≤ a.0.0 = leb-true 1 a.0.0 bounds.0 in
     let high : a.0.0 ≤ most = leb-true a.0.0 most bounds.1 in
     let len : suc (length c.0.0) ≡ a.0.0 = omega (arith, t2.1) in
-    let e12 = Takes-then a.0.1 (to_be_bytes w32 b.0.0) b.0.1 (flat_map (to_be_bytes w32) c.0.0) c.0.1 t1.0 t2.0 in
-    let e02 = Takes-then bytes (a.0.0 ∷ []) a.0.1 (to_be_bytes w32 b.0.0 ++ flat_map (to_be_bytes w32) c.0.0) c.0.1 t0.0 e12 in
+    let e12 = ReadsLine-then a.0.1 (to_be_bytes w32 b.0.0) b.0.1 (flat_map (to_be_bytes w32) c.0.0) c.0.1 t1.0 t2.0 in
+    let e02 = ReadsLine-then bytes (a.0.0 ∷ []) a.0.1 (to_be_bytes w32 b.0.0 ++ flat_map (to_be_bytes w32) c.0.0) c.0.1 t0.0 e12 in
     let spelled_numbers : to_be_bytes w32 b.0.0 ++ flat_map (to_be_bytes w32) c.0.0 ≡ flat_map (to_be_bytes w32) (b.0.0 ∷ c.0.0) = sym (flat_map-cons (to_be_bytes w32) b.0.0 c.0.0) in
     let named = subst (λ (t : List ℕ). Takes bytes (a.0.0 ∷ t) c.0.1) spelled_numbers e02 in
     let whole = subst (λ (k : ℕ). Takes bytes (k ∷ flat_map (to_be_bytes w32) (b.0.0 ∷ c.0.0)) c.0.1) (sym len) named in
@@ -144,15 +144,15 @@ path_reads most le = record { takes = path_takes most le; again = path_again mos
 -- ---- values
 
 -- the bits of an integer, both ways
-signed_fits : (z : ℤ) → fits z ≡ true → SFits w64 z
+signed_fits : (z : ℤ) → is_i64 z ≡ true → SFits w64 z
 signed_fits (pos n) h = record { sfits = ltb-true n (2 ^ 63) h }
 signed_fits (negsuc n) h = let le : n ≤ 2 ^ 63 - 1 = leb-true n (2 ^ 63 - 1) (and_parts (leb n (2 ^ 63 - 1)) true h).0 in record { sfits = omega arith }
 
-bits_below : (z : ℤ) → fits z ≡ true → cast_unsigned w64 z < 2 ^ 64
+bits_below : (z : ℤ) → is_i64 z ≡ true → cast_unsigned w64 z < 2 ^ 64
 bits_below (pos n) h = let lt : n < 2 ^ 63 = ltb-true n (2 ^ 63) h in omega arith
 bits_below (negsuc n) h = omega arith
 
-fits_from : (n : ℕ) (b : Bool) → ltb n (2 ^ 63) ≡ b → n < 2 ^ 64 → fits (sel b (pos n) (negsuc (2 ^ 64 - suc n))) ≡ true
+fits_from : (n : ℕ) (b : Bool) → ltb n (2 ^ 63) ≡ b → n < 2 ^ 64 → is_i64 (sel b (pos n) (negsuc (2 ^ 64 - suc n))) ≡ true
 fits_from n true e lt = e
 fits_from n false e lt = and_from (leb (2 ^ 64 - suc n) (2 ^ 63 - 1)) true (le-leb (2 ^ 64 - suc n) (2 ^ 63 - 1) (let le : 2 ^ 63 ≤ n = ltb-false n (2 ^ 63) e in omega arith)) refl
 
@@ -172,21 +172,21 @@ value_takes (suc zero ∷ bytes) v rest fit e =
     let named = subst (λ (k : ℕ). Takes bytes (word k) b.0.1) (sym back) t.0 in
     let made : Value × List ℕ = (Int (cast_signed w64 b.0.0), b.0.1) in
     subst (λ (x : Value × List ℕ). Takes (1 ∷ bytes) (value x.0) x.1 × (value_ok x.0 ≡ true)) (ok_is made (v, rest) b.2)
-    (Takes-behind 1 bytes (word (cast_unsigned w64 (cast_signed w64 b.0.0))) b.0.1 named, and_from (fits (cast_signed w64 b.0.0)) true (fits_from b.0.0 (ltb b.0.0 (2 ^ 63)) refl lt) refl)
+    (ReadsLine-behind 1 bytes (word (cast_unsigned w64 (cast_signed w64 b.0.0))) b.0.1 named, and_from (is_i64 (cast_signed w64 b.0.0)) true (fits_from b.0.0 (ltb b.0.0 (2 ^ 63)) refl lt) refl)
 value_takes (suc (suc zero) ∷ bytes) v rest fit e =
     let b = bind_ok (text_at is_text bytes) (λ t. Ok (Text t.0, t.1)) (v, rest) e in
     let t = plain_text_reads.takes bytes b.0.0 b.0.1 (IsBytes-rest 2 bytes fit) b.1 in
     let p = and_parts (is_utf8 b.0.0) (leb (length b.0.0) 256) t.1 in
     let made : Value × List ℕ = (Text b.0.0, b.0.1) in
     subst (λ (x : Value × List ℕ). Takes (2 ∷ bytes) (value x.0) x.1 × (value_ok x.0 ≡ true)) (ok_is made (v, rest) b.2)
-    (Takes-behind 2 bytes (text b.0.0) b.0.1 t.0, and_from (leb (length b.0.0) 256) (is_utf8 b.0.0) p.1 p.0)
+    (ReadsLine-behind 2 bytes (text b.0.0) b.0.1 t.0, and_from (leb (length b.0.0) 256) (is_utf8 b.0.0) p.1 p.0)
 value_takes (suc (suc (suc c)) ∷ bytes) v rest fit e = absurd cc
 
 value_again : (v : Value) (rest : List ℕ) → value_ok v ≡ true → value_at (value v ++ rest) ≡ Ok (v, rest)
 unfolding value_at
 value_again Nothing rest h = refl
 value_again (Int z) rest h =
-    let fit = (and_parts (fits z) true h).0 in
+    let fit = (and_parts (is_i64 z) true h).0 in
     let again : word_at (word (cast_unsigned w64 z) ++ rest) ≡ Ok (cast_unsigned w64 z, rest) = word_reads.again (cast_unsigned w64 z) rest (lt-ltb (cast_unsigned w64 z) (2 ^ 64) (bits_below z fit)) in
     ap (λ (r : Result (ℕ × List ℕ) ℕ). r >>= λ n. Ok (Int (cast_signed w64 n.0), n.1)) again
     ∙ ap (λ (x : ℤ). Ok (Int x, rest)) (to_z-of_z w64 z (signed_fits z fit))
@@ -204,7 +204,7 @@ pub chosen : {A : Type 0} (b : Bool) (x y z : A) → cond b x y ≡ z → ((b �
 chosen true x y z e = inl (refl, e)
 chosen false x y z e = inr (refl, e)
 
-known_ok : {A : Type 0} (left : ℕ) (o : Option A) (bytes : List ℕ) (x : A) (rest : List ℕ) → known left o bytes ≡ Ok (x, rest) → (o ≡ Some x) × (bytes ≡ rest)
+known_ok : {A : Type 0} (left : ℕ) (o : Option A) (bytes : List ℕ) (x : A) (rest : List ℕ) → found_or_left left o bytes ≡ Ok (x, rest) → (o ≡ Some x) × (bytes ≡ rest)
 known_ok left None bytes x rest e = absurd cc
 known_ok {A} left (Some y) bytes x rest e =
     let g = ok_is (y, bytes) (x, rest) e in
@@ -311,12 +311,12 @@ outcome_takes (zero ∷ bytes) o rest fit e =
     let b = bind_ok (value_at bytes) (λ v. Ok (Good v.0, v.1)) (o, rest) e in
     let t = value_reads.takes bytes b.0.0 b.0.1 (IsBytes-rest 0 bytes fit) b.1 in
     let made : Outcome × List ℕ = (Good b.0.0, b.0.1) in
-    subst (λ (x : Outcome × List ℕ). Takes (0 ∷ bytes) (outcome x.0) x.1 × (outcome_ok x.0 ≡ true)) (ok_is made (o, rest) b.2) (Takes-behind 0 bytes (value b.0.0) b.0.1 t.0, t.1)
+    subst (λ (x : Outcome × List ℕ). Takes (0 ∷ bytes) (outcome x.0) x.1 × (outcome_ok x.0 ≡ true)) (ok_is made (o, rest) b.2) (ReadsLine-behind 0 bytes (value b.0.0) b.0.1 t.0, t.1)
 outcome_takes (suc zero ∷ bytes) o rest fit e =
     let b = bind_ok (trap_at bytes) (λ kind. Ok (Trap kind.0, kind.1)) (o, rest) e in
     let t = trap_reads.takes bytes b.0.0 b.0.1 (IsBytes-rest 1 bytes fit) b.1 in
     let made : Outcome × List ℕ = (Trap b.0.0, b.0.1) in
-    subst (λ (x : Outcome × List ℕ). Takes (1 ∷ bytes) (outcome x.0) x.1 × (outcome_ok x.0 ≡ true)) (ok_is made (o, rest) b.2) (Takes-behind 1 bytes (trap_number b.0.0 ∷ []) b.0.1 t.0, refl)
+    subst (λ (x : Outcome × List ℕ). Takes (1 ∷ bytes) (outcome x.0) x.1 × (outcome_ok x.0 ≡ true)) (ok_is made (o, rest) b.2) (ReadsLine-behind 1 bytes (trap_number b.0.0 ∷ []) b.0.1 t.0, refl)
 outcome_takes (suc (suc c) ∷ bytes) o rest fit e = absurd cc
 
 outcome_again : (o : Outcome) (rest : List ℕ) → outcome_ok o ≡ true → outcome_at (outcome o ++ rest) ≡ Ok (o, rest)
@@ -339,7 +339,7 @@ write_takes bytes w rest fit e =
     let t1 = value_reads.takes a.0.1 b.0.0 b.0.1 t0.0.rest_fits b.1 in
     let made : (List ℕ × Value) × List ℕ = ((a.0.0, b.0.0), b.0.1) in
     subst (λ (x : (List ℕ × Value) × List ℕ). Takes bytes (write x.0) x.1 × (write_ok x.0 ≡ true)) (ok_is made (w, rest) b.2)
-    (Takes-then bytes (text a.0.0) a.0.1 (value b.0.0) b.0.1 t0.0 t1.0, and_from (is_key a.0.0) (value_ok b.0.0) t0.1 t1.1)
+    (ReadsLine-then bytes (text a.0.0) a.0.1 (value b.0.0) b.0.1 t0.0 t1.0, and_from (is_key a.0.0) (value_ok b.0.0) t0.1 t1.1)
 
 write_again : (w : List ℕ × Value) (rest : List ℕ) → write_ok w ≡ true → write_at (write w ++ rest) ≡ Ok (w, rest)
 unfolding write_at

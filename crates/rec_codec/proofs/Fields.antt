@@ -9,7 +9,7 @@ use Rattle.std.proofs.lemmas.List.{take_at, drop_at, take-append-drop, length-ap
 use Rattle.std.proofs.lemmas.List.Concat.{flat_map-cons}
 use Rattle.std.proofs.lemmas.Nat.{be_bytes_2, be_bytes_4, be_bytes_8, from_be_bytes-to_be_bytes_2, from_be_bytes-to_be_bytes_4, from_be_bytes-to_be_bytes_8}
 use Rattle.rec_codec.specs.Spelling.{text}
-use Rattle.rec_codec.specs.Reading.{Reader, ◌>>=◌, kept, byte_at, number_at, counted, piece_at, text_at, count_at, many_at, list_at}
+use Rattle.rec_codec.specs.Reading.{Reader, ◌>>=◌, validated, byte_at, number_at, take_counted, piece_at, text_at, count_at, many_at, list_at}
 
 -- ---- steps
 
@@ -59,11 +59,11 @@ pub record Takes (bytes text rest : List ℕ) : Type 0 where
   pub parts : bytes ≡ text ++ rest
   pub rest_fits : IsBytes rest
 
-pub Takes-then : (a x b y c : List ℕ) → Takes a x b → Takes b y c → Takes a (x ++ y) c
-Takes-then a x b y c p q = record { parts = p.parts ∙ ap (λ (t : List ℕ). x ++ t) q.parts ∙ sym (append_assoc x y c); rest_fits = q.rest_fits }
+pub ReadsLine-then : (a x b y c : List ℕ) → Takes a x b → Takes b y c → Takes a (x ++ y) c
+ReadsLine-then a x b y c p q = record { parts = p.parts ∙ ap (λ (t : List ℕ). x ++ t) q.parts ∙ sym (append_assoc x y c); rest_fits = q.rest_fits }
 
-pub Takes-behind : (c : ℕ) (bytes text rest : List ℕ) → Takes bytes text rest → Takes (c ∷ bytes) (c ∷ text) rest
-Takes-behind c bytes text rest t = record { parts = ap (λ (x : List ℕ). c ∷ x) t.parts; rest_fits = t.rest_fits }
+pub ReadsLine-behind : (c : ℕ) (bytes text rest : List ℕ) → Takes bytes text rest → Takes (c ∷ bytes) (c ∷ text) rest
+ReadsLine-behind c bytes text rest t = record { parts = ap (λ (x : List ℕ). c ∷ x) t.parts; rest_fits = t.rest_fits }
 
 -- ---- the law of a reader
 
@@ -73,21 +73,21 @@ pub record Reads (A : Type 0) (spell : A → List ℕ) (ok : A → Bool) (read :
   pub again : (x : A) (rest : List ℕ) → ok x ≡ true → read (spell x ++ rest) ≡ Ok (x, rest)
 
 -- the same under another test
-pub Reads-by : {A : Type 0} {spell : A → List ℕ} {p : A → Bool} {read : Reader A} (q : A → Bool) → Reads A spell p read → ((x : A) → p x ≡ true → q x ≡ true) → ((x : A) → q x ≡ true → p x ≡ true) → Reads A spell q read
-Reads-by q r there back = record {
+pub ReadsOn-by : {A : Type 0} {spell : A → List ℕ} {p : A → Bool} {read : Reader A} (q : A → Bool) → Reads A spell p read → ((x : A) → p x ≡ true → q x ≡ true) → ((x : A) → q x ≡ true → p x ≡ true) → Reads A spell q read
+ReadsOn-by q r there back = record {
   takes = λ bytes x rest fits e. let t = r.takes bytes x rest fits e in (t.0, there x t.1);
   again = λ x rest h. r.again x rest (back x h);
 }
 
-kept_ok : {A : Type 0} (p : A → Bool) (bytes : List ℕ) (r : Result (A × List ℕ) ℕ) (x : A) (rest : List ℕ) → kept p bytes r ≡ Ok (x, rest) → (r ≡ Ok (x, rest)) × (p x ≡ true)
+kept_ok : {A : Type 0} (p : A → Bool) (bytes : List ℕ) (r : Result (A × List ℕ) ℕ) (x : A) (rest : List ℕ) → validated p bytes r ≡ Ok (x, rest) → (r ≡ Ok (x, rest)) × (p x ≡ true)
 kept_ok {A} p bytes (Ok y) x rest e =
     let g = passed_ok (p y.0) (length bytes) y (x, rest) e in
     (ap (λ (z : A × List ℕ). Ok z) g.1, subst (λ (z : A × List ℕ). p z.0 ≡ true) g.1 g.0)
 kept_ok p bytes (Err left) x rest e = absurd cc
 
 -- a reader that keeps what passes a further test
-pub Reads-kept : {A : Type 0} {spell : A → List ℕ} {ok : A → Bool} {read : Reader A} (p : A → Bool) → Reads A spell ok read → Reads A spell (λ x. ok x && p x) (λ bytes. kept p bytes (read bytes))
-Reads-kept {A} {spell} {ok} {read} p r = record {
+pub ReadsOn-kept : {A : Type 0} {spell : A → List ℕ} {ok : A → Bool} {read : Reader A} (p : A → Bool) → Reads A spell ok read → Reads A spell (λ x. ok x && p x) (λ bytes. validated p bytes (read bytes))
+ReadsOn-kept {A} {spell} {ok} {read} p r = record {
   takes = λ bytes x rest fits e.
       let k = kept_ok p bytes (read bytes) x rest e in
       let t = r.takes bytes x rest fits k.0 in
@@ -95,7 +95,7 @@ Reads-kept {A} {spell} {ok} {read} p r = record {
   again = λ x rest h.
       let both = and_parts (ok x) (p x) h in
       let once : read (spell x ++ rest) ≡ Ok (x, rest) = r.again x rest both.0 in
-      ap (kept p (spell x ++ rest)) once ∙ ap (λ (b : Bool). cond b (Ok (x, rest)) (Err (length (spell x ++ rest)))) both.1;
+      ap (validated p (spell x ++ rest)) once ∙ ap (λ (b : Bool). cond b (Ok (x, rest)) (Err (length (spell x ++ rest)))) both.1;
 }
 
 -- ---- numbers
@@ -164,21 +164,21 @@ byte_reads = record { takes = byte_takes; again = λ n rest h. refl }
 
 pub count_reads : (least most : ℕ) → Reads ℕ (λ n. n ∷ []) (λ n. leb least n && leb n most) (count_at least most)
 unfolding count_at
-count_reads least most = Reads-by (λ n. leb least n && leb n most) (Reads-kept (λ n. leb least n && leb n most) byte_reads) (λ n h. h) (λ n h. h)
+count_reads least most = ReadsOn-by (λ n. leb least n && leb n most) (ReadsOn-kept (λ n. leb least n && leb n most) byte_reads) (λ n h. h) (λ n h. h)
 
 -- ---- bytes behind their number
 
 piece_takes : (bytes t rest : List ℕ) → IsBytes bytes → piece_at bytes ≡ Ok (t, rest) → Takes bytes (text t) rest × (ltb (length t) (2 ^ 16) ≡ true) × IsBytes t
 unfolding piece_at
 piece_takes bytes t rest fits e =
-    let b = bind_ok (number_at w16 bytes) (counted bytes) (t, rest) e in
+    let b = bind_ok (number_at w16 bytes) (take_counted bytes) (t, rest) e in
     let n = b.0 in
     let p = number_takes w16 (2 ^ 16) wide16 bytes n.0 n.1 fits b.1 in
     let g = guard_ok (ltb (length n.1) n.0) (length bytes) (take n.0 n.1, drop n.0 n.1) (t, rest) b.2 in
     let long : n.0 ≤ length n.1 = ltb-false _ _ g.0 in
     let len : length (take n.0 n.1) ≡ n.0 = omega (arith, length-take n.0 n.1) in
     let second : Takes n.1 (take n.0 n.1) (drop n.0 n.1) = record { parts = sym (take-append-drop n.0 n.1); rest_fits = IsBytes-drop n.0 n.1 p.0.rest_fits } in
-    let both = Takes-then bytes (to_be_bytes w16 n.0) n.1 (take n.0 n.1) (drop n.0 n.1) p.0 second in
+    let both = ReadsLine-then bytes (to_be_bytes w16 n.0) n.1 (take n.0 n.1) (drop n.0 n.1) p.0 second in
     let whole : Takes bytes (text (take n.0 n.1)) (drop n.0 n.1) = subst (λ (k : ℕ). Takes bytes (to_be_bytes w16 k ++ take n.0 n.1) (drop n.0 n.1)) (sym len) both in
     let below : ltb (length (take n.0 n.1)) (2 ^ 16) ≡ true = lt-ltb _ _ (omega (arith, p.1)) in
     subst (λ (q : List ℕ × List ℕ). Takes bytes (text q.0) q.1 × (ltb (length q.0) (2 ^ 16) ≡ true) × IsBytes q.0) g.1 (whole, below, IsBytes-take n.0 n.1 p.0.rest_fits)
@@ -200,7 +200,7 @@ piece_reads = record {
 pub text_reads : (passes : List ℕ → Bool) → ((t : List ℕ) → passes t ≡ true → length t < 2 ^ 16) → Reads (List ℕ) text passes (text_at passes)
 unfolding text_at
 text_reads passes short =
-    Reads-by passes (Reads-kept passes piece_reads) (λ t h. (and_parts (ltb (length t) (2 ^ 16)) (passes t) h).1)
+    ReadsOn-by passes (ReadsOn-kept passes piece_reads) (λ t h. (and_parts (ltb (length t) (2 ^ 16)) (passes t) h).1)
     (λ t h. and_from (ltb (length t) (2 ^ 16)) (passes t) (lt-ltb _ _ (short t h)) h)
 
 -- ---- so many, and lists
@@ -214,7 +214,7 @@ many_takes {A} {spell} {ok} {read} r (suc n) bytes xs rest fits e =
     let b = bind_ok (many_at read n a.0.1) (λ others. Ok (a.0.0 ∷ others.0, others.1)) (xs, rest) a.2 in
     let first = r.takes bytes a.0.0 a.0.1 fits a.1 in
     let second = many_takes r n a.0.1 b.0.0 b.0.1 first.0.rest_fits b.1 in
-    let both = Takes-then bytes (spell a.0.0) a.0.1 (flat_map spell b.0.0) b.0.1 first.0 second.0 in
+    let both = ReadsLine-then bytes (spell a.0.0) a.0.1 (flat_map spell b.0.0) b.0.1 first.0 second.0 in
     let made : List A × List ℕ = (a.0.0 ∷ b.0.0, b.0.1) in
     subst (λ (y : List A × List ℕ). Takes bytes (flat_map spell y.0) y.1 × (length y.0 ≡ suc n) × (list_all ok y.0 ≡ true)) (ok_is made (xs, rest) b.2)
     (rw flat_map-cons both, ap suc second.1, and_from (ok a.0.0) (list_all ok b.0.0) first.1 second.2)
@@ -240,7 +240,7 @@ list_takes {A} {spell} {ok} {read} least r bytes xs rest fits e =
     let a = bind_ok (count_at least 8 bytes) (λ n. many_at read n.0 n.1) (xs, rest) e in
     let first = (count_reads least 8).takes bytes a.0.0 a.0.1 fits a.1 in
     let second = many_takes r a.0.0 a.0.1 xs rest first.0.rest_fits a.2 in
-    let both = Takes-then bytes (a.0.0 ∷ []) a.0.1 (flat_map spell xs) rest first.0 second.0 in (
+    let both = ReadsLine-then bytes (a.0.0 ∷ []) a.0.1 (flat_map spell xs) rest first.0 second.0 in (
       subst (λ (k : ℕ). Takes bytes (k ∷ flat_map spell xs) rest) (sym second.1) both,
       and_from (leb least (length xs) && leb (length xs) 8) (list_all ok xs) (subst (λ (k : ℕ). (leb least k && leb k 8) ≡ true) (sym second.1) first.1) second.2,
     )

@@ -14,7 +14,7 @@ use Rattle.lb_base.specs.declared.value.Outcome.TheVariants.{Good, Trap}
 use Rattle.lb_base.specs.Path.{is_request, is_path, are_ordinals, is_ordinal}
 use Rattle.boki_types.specs.declared.body.Body.{Body}
 use Rattle.boki_types.specs.declared.body.Body.TheVariants as b
-use Rattle.boki_model.specs.Bodies.{is_word, is_value, is_name, is_identifier, is_word_text, reserved, is_outcome, few, some_names, is_step, in_range}
+use Rattle.boki_model.specs.Bodies.{is_u64, is_value, is_name, is_identifier, has_identifier_characters, reserved_words, is_outcome, is_short_list, are_names, is_step_id, in_range}
 use Rattle.rec_codec.specs.Spelling.{word, text, path, value, outcome, values, names, write, writes, spelled, is_short}
 use Rattle.rec_codec.proofs.Bodies.{plain_write}
 
@@ -37,8 +37,8 @@ pieces f ok m each (x ∷ xs) h =
     rw (flat_map-cons f x xs, e) sum
 
 counted_pieces : {X : Type 0} (f : X → List ℕ) (ok : X → Bool) (m : ℕ) → ((x : X) → ok x ≡ true → length (f x) ≤ m) → (xs : List X) → leb (length xs) 8 ≡ true → list_all ok xs ≡ true → length (length xs ∷ flat_map f xs) ≤ 1 + m * 8
-counted_pieces f ok m each xs few h =
-    let le : length xs ≤ 8 = leb-true (length xs) 8 few in
+counted_pieces f ok m each xs is_short_list h =
+    let le : length xs ≤ 8 = leb-true (length xs) 8 is_short_list in
     let sum = pieces f ok m each xs h in
     let more : m * length xs ≤ m * 8 = mul-le-mul_left m le in
     omega arith
@@ -50,7 +50,7 @@ key_len : (t : List ℕ) → is_name t ≡ true → length (text t) ≤ 66
 key_len t h = text_len t 64 (leb-true (length t) 64 (and_parts (leb 1 (length t)) (leb (length t) 64) h).1)
 
 function_len : (t : List ℕ) → is_identifier t ≡ true → length (text t) ≤ 34
-function_len t h = text_len t 32 (leb-true (length t) 32 (and_parts (is_word_text t) (leb (length t) 32) (and_parts (is_word_text t && leb (length t) 32) (not (list_any (bytes_eq t) reserved)) h).0).1)
+function_len t h = text_len t 32 (leb-true (length t) 32 (and_parts (has_identifier_characters t) (leb (length t) 32) (and_parts (has_identifier_characters t && leb (length t) 32) (not (list_any (bytes_eq t) reserved_words)) h).0).1)
 
 value_len : (v : Value) → is_value v ≡ true → length (value v) ≤ 259
 value_len Nothing h = omega arith
@@ -74,73 +74,73 @@ path_len (n ∷ ns) h =
 word_len : (n : ℕ) → length (word n) ≤ 8
 word_len n = omega arith
 
-args_len : (vs : List Value) → few vs ≡ true → list_all is_value vs ≡ true → length (values vs) ≤ 2073
+args_len : (vs : List Value) → is_short_list vs ≡ true → list_all is_value vs ≡ true → length (values vs) ≤ 2073
 args_len vs n h = counted_pieces value is_value 259 value_len vs n h
 
-names_len : (ns : List (List ℕ)) → some_names ns ≡ true → length (names ns) ≤ 529
+names_len : (ns : List (List ℕ)) → are_names ns ≡ true → length (names ns) ≤ 529
 names_len ns h =
-    let p = and_parts (leb 1 (length ns) && few ns) (list_all is_name ns) h in
-    counted_pieces text is_name 66 key_len ns (and_parts (leb 1 (length ns)) (few ns) p.0).1 p.1
+    let p = and_parts (leb 1 (length ns) && is_short_list ns) (list_all is_name ns) h in
+    counted_pieces text is_name 66 key_len ns (and_parts (leb 1 (length ns)) (is_short_list ns) p.0).1 p.1
 
-writes_len : (ws : List (List ℕ × Value)) → few ws ≡ true → list_all plain_write ws ≡ true → length (writes ws) ≤ 2601
+writes_len : (ws : List (List ℕ × Value)) → is_short_list ws ≡ true → list_all plain_write ws ≡ true → length (writes ws) ≤ 2601
 writes_len ws n h = counted_pieces write plain_write 325 write_len ws n h
 
-step_len : (p : List ℕ) (i : ℕ) (tail : List ℕ) (m : ℕ) → is_step p i ≡ true → length tail ≤ m → length (path p ++ (word i ++ tail)) ≤ 25 + m
+step_len : (p : List ℕ) (i : ℕ) (tail : List ℕ) (m : ℕ) → is_step_id p i ≡ true → length tail ≤ m → length (path p ++ (word i ++ tail)) ≤ 25 + m
 step_len p i tail m h le =
-    let is = (and_parts (is_path p) (leb 1 i) (and_parts (is_path p && leb 1 i) (is_word i) h).0).0 in
+    let is = (and_parts (is_path p) (leb 1 i) (and_parts (is_path p && leb 1 i) (is_u64 i) h).0).0 in
     let whole = app (path p) (word i ++ tail) 17 (8 + m) (path_len p is) (app (word i) tail 8 m (word_len i) le) in
     omega arith
 
 -- a body in range that is no user's has at most 4,096 bytes, and so has a user's of at most 4,092
 pub spelled_len : (body : Body) → in_range body ≡ true → is_short body ≡ true → length (spelled body) ≤ 4096
 spelled_len (b.Submit p f args) h k =
-    let r3 = and_parts ((is_path p && eqb (length p) 1) && is_identifier f && few args) (list_all is_value args) h in
-    let r2 = and_parts ((is_path p && eqb (length p) 1) && is_identifier f) (few args) r3.0 in
+    let r3 = and_parts ((is_path p && eqb (length p) 1) && is_identifier f && is_short_list args) (list_all is_value args) h in
+    let r2 = and_parts ((is_path p && eqb (length p) 1) && is_identifier f) (is_short_list args) r3.0 in
     let r1 = and_parts ((is_path p && eqb (length p) 1)) (is_identifier f) r2.0 in
     let le = app (path p) (text f ++ values args) 17 2107 (path_len p (and_parts (is_path p) (eqb (length p) 1) r1.0).0) (app (text f) (values args) 34 2073 (function_len f r1.1) (args_len args r2.1 r3.1)) in omega arith
 spelled_len (b.Init p) h k =
     let le = path_len p h in omega arith
 spelled_len (b.Read p i key) h k =
-    let r1 = and_parts (is_step p i) (is_name key) h in
+    let r1 = and_parts (is_step_id p i) (is_name key) h in
     let le = step_len p i (text key) 66 r1.0 (key_len key r1.1) in omega arith
 spelled_len (b.Write p i place key None) h k =
-    let r3 = and_parts (is_step p i && is_word place && is_name key) (true) h in
-    let r2 = and_parts (is_step p i && is_word place) (is_name key) r3.0 in
-    let r1 = and_parts (is_step p i) (is_word place) r2.0 in
+    let r3 = and_parts (is_step_id p i && is_u64 place && is_name key) (true) h in
+    let r2 = and_parts (is_step_id p i && is_u64 place) (is_name key) r3.0 in
+    let r1 = and_parts (is_step_id p i) (is_u64 place) r2.0 in
     let le = step_len p i (word place ++ text key) 74 r1.0 (app (word place) (text key) 8 66 (word_len place) (key_len key r2.1)) in omega arith
 spelled_len (b.Write p i place key (Some v)) h k =
-    let r3 = and_parts (is_step p i && is_word place && is_name key) (is_value v) h in
-    let r2 = and_parts (is_step p i && is_word place) (is_name key) r3.0 in
-    let r1 = and_parts (is_step p i) (is_word place) r2.0 in
+    let r3 = and_parts (is_step_id p i && is_u64 place && is_name key) (is_value v) h in
+    let r2 = and_parts (is_step_id p i && is_u64 place) (is_name key) r3.0 in
+    let r1 = and_parts (is_step_id p i) (is_u64 place) r2.0 in
     let le = step_len p i (word place ++ (text key ++ value v)) 333 r1.0 (app (word place) (text key ++ value v) 8 325 (word_len place) (app (text key) (value v) 66 259 (key_len key r2.1) (value_len v r3.1))) in omega arith
 spelled_len (b.Spawn p i ordinal f args) h k =
-    let r5 = and_parts (is_step p i && leb (length p) 3 && is_ordinal ordinal && is_identifier f && few args) (list_all is_value args) h in
-    let r4 = and_parts (is_step p i && leb (length p) 3 && is_ordinal ordinal && is_identifier f) (few args) r5.0 in
-    let r3 = and_parts (is_step p i && leb (length p) 3 && is_ordinal ordinal) (is_identifier f) r4.0 in
-    let r2 = and_parts (is_step p i && leb (length p) 3) (is_ordinal ordinal) r3.0 in
-    let r1 = and_parts (is_step p i) (leb (length p) 3) r2.0 in
+    let r5 = and_parts (is_step_id p i && leb (length p) 3 && is_ordinal ordinal && is_identifier f && is_short_list args) (list_all is_value args) h in
+    let r4 = and_parts (is_step_id p i && leb (length p) 3 && is_ordinal ordinal && is_identifier f) (is_short_list args) r5.0 in
+    let r3 = and_parts (is_step_id p i && leb (length p) 3 && is_ordinal ordinal) (is_identifier f) r4.0 in
+    let r2 = and_parts (is_step_id p i && leb (length p) 3) (is_ordinal ordinal) r3.0 in
+    let r1 = and_parts (is_step_id p i) (leb (length p) 3) r2.0 in
     let le = step_len p i (word ordinal ++ (text f ++ values args)) 2115 r1.0 (app (word ordinal) (text f ++ values args) 8 2107 (word_len ordinal) (app (text f) (values args) 34 2073 (function_len f r3.1) (args_len args r4.1 r5.1))) in omega arith
 spelled_len (b.Join p i ordinal) h k =
-    let r1 = and_parts (is_step p i) (is_ordinal ordinal) h in
+    let r1 = and_parts (is_step_id p i) (is_ordinal ordinal) h in
     let le = step_len p i (word ordinal) 8 r1.0 (word_len ordinal) in omega arith
 spelled_len (b.Push p i queue v) h k =
-    let r2 = and_parts (is_step p i && is_name queue) (is_value v) h in
-    let r1 = and_parts (is_step p i) (is_name queue) r2.0 in
+    let r2 = and_parts (is_step_id p i && is_name queue) (is_value v) h in
+    let r1 = and_parts (is_step_id p i) (is_name queue) r2.0 in
     let le = step_len p i (text queue ++ value v) 325 r1.0 (app (text queue) (value v) 66 259 (key_len queue r1.1) (value_len v r2.1)) in omega arith
 spelled_len (b.Pop p i queue) h k =
-    let r1 = and_parts (is_step p i) (is_name queue) h in
+    let r1 = and_parts (is_step_id p i) (is_name queue) h in
     let le = step_len p i (text queue) 66 r1.0 (key_len queue r1.1) in omega arith
 spelled_len (b.TxnBegin p i ns) h k =
-    let r1 = and_parts (is_step p i) (some_names ns) h in
+    let r1 = and_parts (is_step_id p i) (are_names ns) h in
     let le = step_len p i (names ns) 529 r1.0 (names_len ns r1.1) in omega arith
 spelled_len (b.TxnCommit p i began ns ws) h k =
-    let r4 = and_parts (is_step p i && is_word began && some_names ns && few ws) (list_all plain_write ws) h in
-    let r3 = and_parts (is_step p i && is_word began && some_names ns) (few ws) r4.0 in
-    let r2 = and_parts (is_step p i && is_word began) (some_names ns) r3.0 in
-    let r1 = and_parts (is_step p i) (is_word began) r2.0 in
+    let r4 = and_parts (is_step_id p i && is_u64 began && are_names ns && is_short_list ws) (list_all plain_write ws) h in
+    let r3 = and_parts (is_step_id p i && is_u64 began && are_names ns) (is_short_list ws) r4.0 in
+    let r2 = and_parts (is_step_id p i && is_u64 began) (are_names ns) r3.0 in
+    let r1 = and_parts (is_step_id p i) (is_u64 began) r2.0 in
     let le = step_len p i (word began ++ (names ns ++ writes ws)) 3138 r1.0 (app (word began) (names ns ++ writes ws) 8 3130 (word_len began) (app (names ns) (writes ws) 529 2601 (names_len ns r2.1) (writes_len ws r3.1 r4.1))) in omega arith
 spelled_len (b.Finish p i o) h k =
-    let r1 = and_parts (is_step p i) (is_outcome o) h in
+    let r1 = and_parts (is_step_id p i) (is_outcome o) h in
     let le = step_len p i (outcome o) 260 r1.0 (outcome_len o r1.1) in omega arith
 spelled_len (b.SwitchBegin target) h k = omega arith
 spelled_len b.SwitchEnd h k = omega arith
@@ -148,7 +148,7 @@ spelled_len (b.Trim w) h k = let le = word_len w in omega arith
 spelled_len (b.TrimTag number upto) h k = let le = app (word number) (word upto) 8 8 (word_len number) (word_len upto) in omega arith
 spelled_len (b.User bytes) h k = let le = text_len bytes 4092 (leb-true (length bytes) 4092 k) in omega arith
 spelled_len (b.ReadGroup p i ns) h k =
-    let r1 = and_parts (is_step p i) (some_names ns) h in
+    let r1 = and_parts (is_step_id p i) (are_names ns) h in
     let le = step_len p i (names ns) 529 r1.0 (names_len ns r1.1) in omega arith
 
 -- what is too long has more

@@ -10,3 +10,4 @@ pub mod PathLemmas
 pub mod TrimLemmas
 pub mod Adding
 pub mod Ranges
+pub mod KindLemmas

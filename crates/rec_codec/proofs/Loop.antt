@@ -3,7 +3,7 @@ use Rattle.std.proofs.Common.{◌≡◌, ℕ, suc, ◌-◌, ◌+◌, ◌≤◌, 
 use Rattle.std.proofs.lemmas.List.{append-nil}
 use Rattle.rec_codec.specs.declared.fault.Stop.{Stop}
 use Rattle.rec_codec.specs.declared.fault.Stop.TheVariants as stop
-use Rattle.rec_codec.specs.Answers.{Fails, with_front, with_one}
+use Rattle.rec_codec.specs.Answers.{StopsAs, with_front, with_one}
 use Rattle.rec_codec.specs.Reading.{Reader, ◌>>=◌, many_at}
 
 regroup : {A : Type 0} (front : List A) (x : A) (reading : Result (List A × List ℕ) ℕ) → with_front front (reading >>= λ y. Ok (x ∷ y.0, y.1)) ≡ with_front (front ++ x ∷ []) reading
@@ -20,8 +20,8 @@ goes_on read front count i bytes x after total lt h so_far =
     sym one ∙ so_far
 
 -- reading stops
-pub ends : {A : Type 0} (read : Reader A) (e : Stop) (front : List A) (count i : ℕ) (bytes : List ℕ) (total : Result (List A × List ℕ) ℕ) → i < count → Fails e (read bytes)
-    → with_front front (many_at read (count - i) bytes) ≡ total → Fails e total
+pub ends : {A : Type 0} (read : Reader A) (e : Stop) (front : List A) (count i : ℕ) (bytes : List ℕ) (total : Result (List A × List ℕ) ℕ) → i < count → StopsAs e (read bytes)
+    → with_front front (many_at read (count - i) bytes) ≡ total → StopsAs e total
 unfolding many_at
 ends read stop.Memory front count i bytes total lt h so_far = tt
 ends read (stop.Left left) front count i bytes total lt h so_far =
@@ -52,7 +52,7 @@ one_ok {A} front whole after (Ok y) e =
 one_ok front whole after (Err left) e = absurd cc
 
 -- none was read
-pub one_fails : {A : Type 0} (front : List A) (e : Stop) (reading : Result (A × List ℕ) ℕ) → Fails e (with_one front reading) → Fails e reading
+pub one_fails : {A : Type 0} (front : List A) (e : Stop) (reading : Result (A × List ℕ) ℕ) → StopsAs e (with_one front reading) → StopsAs e reading
 one_fails front stop.Memory reading h = tt
 one_fails front (stop.Left left) (Ok y) h = absurd cc
 one_fails front (stop.Left left) (Err other) h = cc

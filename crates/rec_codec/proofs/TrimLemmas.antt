@@ -7,7 +7,7 @@ use Rattle.lb_base.specs.declared.value.Seqnum.{Seqnum}
 use Rattle.boki_types.specs.declared.body.Body.{Body}
 use Rattle.boki_types.specs.declared.body.Body.TheVariants as b
 use Rattle.rec_codec.specs.Spelling.{word, spelled}
-use Rattle.rec_codec.specs.Reading.{◌>>=◌, kept, word_at, tag_at, trim_tag_at, plain_at, body_at, whole, read, trim_in}
+use Rattle.rec_codec.specs.Reading.{◌>>=◌, validated, word_at, tag_at, trim_tag_at, format1_at, body_at, whole, read, trim_in}
 use Rattle.rec_codec.proofs.Fields.{IsBytes}
 use Rattle.rec_codec.proofs.Arities.{built}
 use Rattle.rec_codec.proofs.Bodies.{read_takes_all}
@@ -78,7 +78,7 @@ trim_whole true n u total left = refl
 trim_whole false n u total left = refl
 
 behind_head : (rest : List ℕ) → length rest ≡ 16 → trim_in (read (1 ∷ 15 ∷ rest)) ≡ cond (ltb (from_be_bytes w64 (take 8 rest)) (2 ^ 56)) (trimmed (from_be_bytes w64 (take 8 rest)) (from_be_bytes w64 (take 8 (drop 8 rest)))) None
-unfolding body_at plain_at
+unfolding body_at format1_at
 behind_head rest len =
     ap (λ (r : Result (Body × List ℕ) ℕ). trim_in (whole (length (1 ∷ 15 ∷ rest)) r)) (fields_at rest len)
     ∙ trim_whole (ltb (from_be_bytes w64 (take 8 rest)) (2 ^ 56)) (from_be_bytes w64 (take 8 rest)) (from_be_bytes w64 (take 8 (drop 8 rest))) (length (1 ∷ 15 ∷ rest)) (length rest)

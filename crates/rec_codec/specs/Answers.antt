@@ -7,18 +7,18 @@ use Rattle.rec_codec.specs.declared.fault.DecodeFault.TheVariants as fault
 use Rattle.rec_codec.specs.Reading.{◌>>=◌}
 
 -- It is what reading gives, unless memory ran out.
-abbrev pub Fails : {Y : Type 0} → Stop → Result Y ℕ → Type 0
-Fails stop.Memory reading = Unit {0}
-Fails (stop.Left left) reading = reading ≡ Err left
+abbrev pub StopsAs : {Y : Type 0} → Stop → Result Y ℕ → Type 0
+StopsAs stop.Memory reading = Unit {0}
+StopsAs (stop.Left left) reading = reading ≡ Err left
 
-abbrev pub Gives : {X Y : Type 0} → (X → Y) → Result X Stop → Result Y ℕ → Type 0
-Gives view (Ok x) reading = reading ≡ Ok (view x)
-Gives view (Err e) reading = Fails e reading
+abbrev pub ReadsAs : {X Y : Type 0} → (X → Y) → Result X Stop → Result Y ℕ → Type 0
+ReadsAs view (Ok x) reading = reading ≡ Ok (view x)
+ReadsAs view (Err e) reading = StopsAs e reading
 
--- The same of a whole record, whose fault tells the place.
+-- The same of a whole record, whose fault tells the offset.
 abbrev pub IsFault : {Y : Type 0} → DecodeFault → Result Y ℕ → Type 0
 IsFault fault.Memory reading = Unit {0}
-IsFault (fault.Bad place) reading = reading ≡ Err place
+IsFault (fault.Bad offset) reading = reading ≡ Err offset
 
 abbrev pub Decodes : {Y : Type 0} → Result Y DecodeFault → Result Y ℕ → Type 0
 Decodes (Ok body) reading = reading ≡ Ok body

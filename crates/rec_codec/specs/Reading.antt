@@ -26,9 +26,9 @@ abbrev pub ◌>>=◌ : {A B : Type 0} → Result A ℕ → (A → Result B ℕ) 
 (Err left) >>= f = Err left
 
 -- what was read, where it passes the test; else the element that begins these bytes isn't spelled
-abbrev pub kept : {A : Type 0} → (A → Bool) → List ℕ → Result (A × List ℕ) ℕ → Result (A × List ℕ) ℕ
-kept passes bytes (Ok x) = if passes x.0 then Ok x else Err (length bytes)
-kept passes bytes (Err left) = Err left
+abbrev pub validated : {A : Type 0} → (A → Bool) → List ℕ → Result (A × List ℕ) ℕ → Result (A × List ℕ) ℕ
+validated passes bytes (Ok x) = if passes x.0 then Ok x else Err (length bytes)
+validated passes bytes (Err left) = Err left
 
 -- a byte
 abbrev pub byte_at : Reader ℕ
@@ -44,21 +44,21 @@ word_at bytes = number_at w64 bytes
 
 -- the number of an operation, from 1
 unfoldable pub index_at : Reader ℕ
-index_at bytes = kept (λ n. nat_le 1 n) bytes (word_at bytes)
+index_at bytes = validated (λ n. nat_le 1 n) bytes (word_at bytes)
 
 unfoldable pub ordinal_at : Reader ℕ
-ordinal_at bytes = kept is_ordinal bytes (word_at bytes)
+ordinal_at bytes = validated is_ordinal bytes (word_at bytes)
 
 -- a user's tag
 unfoldable pub tag_at : Reader ℕ
-tag_at bytes = kept (λ n. nat_lt n (2 ^ 56)) bytes (word_at bytes)
+tag_at bytes = validated (λ n. nat_lt n (2 ^ 56)) bytes (word_at bytes)
 
 -- bytes behind their number
-abbrev pub counted : List ℕ → ℕ × List ℕ → Result (List ℕ × List ℕ) ℕ
-counted bytes n = if nat_lt (length n.1) n.0 then Err (length bytes) else Ok (take n.0 n.1, drop n.0 n.1)
+abbrev pub take_counted : List ℕ → ℕ × List ℕ → Result (List ℕ × List ℕ) ℕ
+take_counted bytes n = if nat_lt (length n.1) n.0 then Err (length bytes) else Ok (take n.0 n.1, drop n.0 n.1)
 
 unfoldable pub piece_at : Reader (List ℕ)
-piece_at bytes = number_at w16 bytes >>= counted bytes
+piece_at bytes = number_at w16 bytes >>= take_counted bytes
 
 -- a text of at most 256 bytes, a name, the name of a function, a user's bytes
 abbrev pub is_text : List ℕ → Bool
@@ -71,11 +71,11 @@ abbrev pub is_function : List ℕ → Bool
 is_function t = is_utf8 t && is_identifier t
 
 unfoldable pub text_at : (List ℕ → Bool) → Reader (List ℕ)
-text_at passes bytes = kept passes bytes (piece_at bytes)
+text_at passes bytes = validated passes bytes (piece_at bytes)
 
 -- how many there are
 unfoldable pub count_at : ℕ → ℕ → Reader ℕ
-count_at least most bytes = kept (λ n. nat_le least n && nat_le n most) bytes (byte_at bytes)
+count_at least most bytes = validated (λ n. nat_le least n && nat_le n most) bytes (byte_at bytes)
 
 -- so many, one behind the other
 unfoldable pub many_at : {A : Type 0} → Reader A → ℕ → Reader (List A)
@@ -93,10 +93,10 @@ list_at least read bytes = do
 
 -- the number of a request, and the ordinals of spawns; at most so many in all
 unfoldable pub request_at : Reader ℕ
-request_at bytes = kept is_request bytes (number_at w32 bytes)
+request_at bytes = validated is_request bytes (number_at w32 bytes)
 
 unfoldable pub spawn_at : Reader ℕ
-spawn_at bytes = kept is_ordinal bytes (number_at w32 bytes)
+spawn_at bytes = validated is_ordinal bytes (number_at w32 bytes)
 
 unfoldable pub path_at : ℕ → Reader (List ℕ)
 path_at most bytes = do
@@ -117,9 +117,9 @@ value_at (suc (suc zero) ∷ rest) = do
 value_at (suc (suc (suc c)) ∷ rest) = Err (suc (length rest))
 
 -- what a number stands for, where it stands for something
-abbrev pub known : {A : Type 0} → ℕ → Option A → List ℕ → Result (A × List ℕ) ℕ
-known left None rest = Err left
-known left (Some x) rest = Ok (x, rest)
+abbrev pub found_or_left : {A : Type 0} → ℕ → Option A → List ℕ → Result (A × List ℕ) ℕ
+found_or_left left None rest = Err left
+found_or_left left (Some x) rest = Ok (x, rest)
 
 abbrev pub trap_of : ℕ → Option TrapKind
 trap_of n =
@@ -129,7 +129,7 @@ trap_of n =
 
 unfoldable pub trap_at : Reader TrapKind
 trap_at [] = Err 0
-trap_at (c ∷ rest) = known (suc (length rest)) (trap_of c) rest
+trap_at (c ∷ rest) = found_or_left (suc (length rest)) (trap_of c) rest
 
 unfoldable pub outcome_at : Reader Outcome
 outcome_at [] = Err 0
@@ -146,7 +146,7 @@ target_of n = if n == 1 then Some R else if n == 2 then Some W else None
 
 unfoldable pub target_at : Reader Mode
 target_at [] = Err 0
-target_at (c ∷ rest) = known (suc (length rest)) (target_of c) rest
+target_at (c ∷ rest) = found_or_left (suc (length rest)) (target_of c) rest
 
 unfoldable pub write_at : Reader (List ℕ × Value)
 write_at bytes = do
@@ -274,9 +274,9 @@ group_at bytes = do
   Ok (b.ReadGroup path.0 index.0 keys.0, keys.1)
 
 -- the kinds of format 1, and those of format 2
-unfoldable pub plain_at : Reader Body
-plain_at [] = Err 0
-plain_at (kind ∷ rest) =
+unfoldable pub format1_at : Reader Body
+format1_at [] = Err 0
+format1_at (kind ∷ rest) =
     if kind == 1 then submit_at rest else if kind == 2 then init_at rest else if kind == 3 then read_at rest
     else if kind == 4 then named_write_at rest else if kind == 5 then spawned_at rest else if kind == 6 then join_at rest
     else if kind == 7 then push_at rest else if kind == 8 then pop_at rest else if kind == 9 then begin_at rest
@@ -284,16 +284,16 @@ plain_at (kind ∷ rest) =
     else if kind == 13 then Ok (b.SwitchEnd, rest) else if kind == 14 then trim_at rest
     else if kind == 15 then trim_tag_at rest else if kind == 16 then user_at rest else Err (suc (length rest))
 
-unfoldable pub later_at : Reader Body
-later_at [] = Err 0
-later_at (kind ∷ rest) = if kind == 4 then inline_write_at rest else if kind == 17 then group_at rest else Err (suc (length rest))
+unfoldable pub format2_at : Reader Body
+format2_at [] = Err 0
+format2_at (kind ∷ rest) = if kind == 4 then inline_write_at rest else if kind == 17 then group_at rest else Err (suc (length rest))
 
 -- a body at the front of the bytes
 unfoldable pub body_at : Reader Body
 body_at [] = Err 0
-body_at (format ∷ rest) = if format == 1 then plain_at rest else if format == 2 then later_at rest else Err (suc (length rest))
+body_at (format ∷ rest) = if format == 1 then format1_at rest else if format == 2 then format2_at rest else Err (suc (length rest))
 
--- All of the bytes are one body's spelling; else the place of the first element that isn't spelled, or of the first byte
+-- All of the bytes are one body's spelling; else the offset of the first element that isn't spelled, or of the first byte
 -- behind a whole body.
 abbrev pub whole : ℕ → Result (Body × List ℕ) ℕ → Result Body ℕ
 whole total (Ok (body, [])) = Ok body

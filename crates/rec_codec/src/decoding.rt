@@ -1,15 +1,15 @@
 ghost use Rattle.std.specs.Prelude.{◌≡◌};
-ghost use Rattle.rec_codec.specs.Answers.{Gives, Decodes};
-ghost use Rattle.rec_codec.specs.Reading.{plain_at, later_at, body_at, read};
+ghost use Rattle.rec_codec.specs.Answers.{ReadsAs, Decodes};
+ghost use Rattle.rec_codec.specs.Reading.{format1_at, format2_at, body_at, read};
 
 use crate::fault::{DecodeFault, Stop};
 use crate::{Body, kinds};
 use std::alloc::Global;
 
 /// A body of format 1, from its kind on.
-#[tactic(auto, unfolding(crate::specs::Reading::plain_at))]
-fn plain(alloc: Global, bytes: &[u8]) -> Result<(Body, &[u8]), Stop>
-    ensures { Gives (λ x. (x.0, x.1.now)) result (plain_at bytes.now) }
+#[tactic(auto, unfolding(crate::specs::Reading::format1_at))]
+fn format1(alloc: Global, bytes: &[u8]) -> Result<(Body, &[u8]), Stop>
+    ensures { ReadsAs (λ x. (x.0, x.1.now)) result (format1_at bytes.now) }
 {
     let [kind, rest @ ..] = bytes else {
         return Err(Stop::Left(0));
@@ -36,9 +36,9 @@ fn plain(alloc: Global, bytes: &[u8]) -> Result<(Body, &[u8]), Stop>
 }
 
 /// A body of format 2, from its kind on.
-#[tactic(auto, unfolding(crate::specs::Reading::later_at))]
-fn later(alloc: Global, bytes: &[u8]) -> Result<(Body, &[u8]), Stop>
-    ensures { Gives (λ x. (x.0, x.1.now)) result (later_at bytes.now) }
+#[tactic(auto, unfolding(crate::specs::Reading::format2_at))]
+fn format2(alloc: Global, bytes: &[u8]) -> Result<(Body, &[u8]), Stop>
+    ensures { ReadsAs (λ x. (x.0, x.1.now)) result (format2_at bytes.now) }
 {
     match bytes {
         [] => Err(Stop::Left(0)),
@@ -51,26 +51,29 @@ fn later(alloc: Global, bytes: &[u8]) -> Result<(Body, &[u8]), Stop>
 /// A body.
 #[tactic(auto, unfolding(crate::specs::Reading::body_at))]
 fn body(alloc: Global, bytes: &[u8]) -> Result<(Body, &[u8]), Stop>
-    ensures { Gives (λ x. (x.0, x.1.now)) result (body_at bytes.now) }
+    ensures { ReadsAs (λ x. (x.0, x.1.now)) result (body_at bytes.now) }
 {
     match bytes {
         [] => Err(Stop::Left(0)),
-        [1, rest @ ..] => plain(alloc, rest),
-        [2, rest @ ..] => later(alloc, rest),
+        [1, rest @ ..] => format1(alloc, rest),
+        [2, rest @ ..] => format2(alloc, rest),
         [_, ..] => Err(Stop::Left(bytes.len())),
     }
 }
 
 /// The body that bytes spell, all of them.
 ///
-/// `Bad` comes exactly where they spell none, with the place of the first element that isn't spelled, or of the first byte
+/// `Bad` comes exactly where they spell none, with the offset of the first element that isn't spelled, or of the first byte
 /// behind a whole body. `Memory` comes only where there is no room for the body, which takes no more than its bytes do.
 pub fn decode(alloc: Global, bytes: &[u8]) -> Result<Body, DecodeFault>
     ensures { Decodes result (read bytes.now) }
 {
     match body(alloc, bytes) {
         Ok((body, [])) => Ok(body),
-        Ok((_, rest)) => Err(DecodeFault::Bad(bytes.len().saturating_sub(rest.len()))),
+        Ok((body, rest)) => {
+            drop(body);
+            Err(DecodeFault::Bad(bytes.len().saturating_sub(rest.len())))
+        }
         Err(Stop::Left(left)) => Err(DecodeFault::Bad(bytes.len().saturating_sub(left))),
         Err(Stop::Memory) => Err(DecodeFault::Memory),
     }

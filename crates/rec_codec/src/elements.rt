@@ -1,13 +1,13 @@
 ghost use Rattle.std.specs.Prelude.{◌≡◌, ◌≤◌, length, IfOk};
 ghost use Rattle.std.specs.Int.{w16, w32};
-ghost use Rattle.rec_codec.specs.Answers.{Gives};
+ghost use Rattle.rec_codec.specs.Answers.{ReadsAs};
 ghost use Rattle.rec_codec.specs.Reading.{byte_at, number_at, word_at, index_at, ordinal_at, tag_at, piece_at, count_at, is_text, is_key, is_function, text_at, value_at, trap_of, trap_at, outcome_at, target_at, write_at};
 
 use crate::fault::Stop;
 
 /// A byte.
 pub(crate) fn byte(bytes: &[u8]) -> Result<(u8, &[u8]), Stop>
-    ensures { Gives (λ x. (x.0, x.1.now)) result (byte_at bytes.now) }
+    ensures { ReadsAs (λ x. (x.0, x.1.now)) result (byte_at bytes.now) }
 {
     match bytes {
         [] => Err(Stop::Left(0)),
@@ -17,7 +17,7 @@ pub(crate) fn byte(bytes: &[u8]) -> Result<(u8, &[u8]), Stop>
 
 /// A number of two bytes.
 fn short(bytes: &[u8]) -> Result<(u16, &[u8]), Stop>
-    ensures { Gives (λ x. (x.0, x.1.now)) result (number_at w16 bytes.now) }
+    ensures { ReadsAs (λ x. (x.0, x.1.now)) result (number_at w16 bytes.now) }
 {
     if bytes.len() < 2 {
         return Err(Stop::Left(bytes.len()));
@@ -29,7 +29,7 @@ fn short(bytes: &[u8]) -> Result<(u16, &[u8]), Stop>
 
 /// A number of four bytes.
 pub(crate) fn part(bytes: &[u8]) -> Result<(u32, &[u8]), Stop>
-    ensures { Gives (λ x. (x.0, x.1.now)) result (number_at w32 bytes.now) }
+    ensures { ReadsAs (λ x. (x.0, x.1.now)) result (number_at w32 bytes.now) }
 {
     if bytes.len() < 4 {
         return Err(Stop::Left(bytes.len()));
@@ -41,7 +41,7 @@ pub(crate) fn part(bytes: &[u8]) -> Result<(u32, &[u8]), Stop>
 
 /// A number of eight bytes.
 pub(crate) fn word(bytes: &[u8]) -> Result<(u64, &[u8]), Stop>
-    ensures { Gives (λ x. (x.0, x.1.now)) result (word_at bytes.now) }
+    ensures { ReadsAs (λ x. (x.0, x.1.now)) result (word_at bytes.now) }
 {
     if bytes.len() < 8 {
         return Err(Stop::Left(bytes.len()));
@@ -56,7 +56,7 @@ pub(crate) fn word(bytes: &[u8]) -> Result<(u64, &[u8]), Stop>
 /// The number of an operation, from 1.
 #[tactic(auto, unfolding(crate::specs::Reading::index_at))]
 pub(crate) fn index(bytes: &[u8]) -> Result<(u64, &[u8]), Stop>
-    ensures { Gives (λ x. (x.0, x.1.now)) result (index_at bytes.now) }
+    ensures { ReadsAs (λ x. (x.0, x.1.now)) result (index_at bytes.now) }
 {
     let (number, rest) = word(bytes)?;
     if number < 1 {
@@ -68,7 +68,7 @@ pub(crate) fn index(bytes: &[u8]) -> Result<(u64, &[u8]), Stop>
 /// The ordinal of a spawn, from 1 to 4,095.
 #[tactic(auto, unfolding(crate::specs::Reading::ordinal_at))]
 pub(crate) fn ordinal(bytes: &[u8]) -> Result<(u64, &[u8]), Stop>
-    ensures { Gives (λ x. (x.0, x.1.now)) result (ordinal_at bytes.now) }
+    ensures { ReadsAs (λ x. (x.0, x.1.now)) result (ordinal_at bytes.now) }
 {
     let (number, rest) = word(bytes)?;
     if number == 0 || number > 4_095 {
@@ -80,7 +80,7 @@ pub(crate) fn ordinal(bytes: &[u8]) -> Result<(u64, &[u8]), Stop>
 /// A user's tag, below 2^56.
 #[tactic(auto, unfolding(crate::specs::Reading::tag_at))]
 pub(crate) fn tag(bytes: &[u8]) -> Result<(u64, &[u8]), Stop>
-    ensures { Gives (λ x. (x.0, x.1.now)) result (tag_at bytes.now) }
+    ensures { ReadsAs (λ x. (x.0, x.1.now)) result (tag_at bytes.now) }
 {
     let (number, rest) = word(bytes)?;
     if number >= 72_057_594_037_927_936 {
@@ -92,7 +92,7 @@ pub(crate) fn tag(bytes: &[u8]) -> Result<(u64, &[u8]), Stop>
 /// How many there are, between two bounds.
 #[tactic(auto, unfolding(crate::specs::Reading::count_at))]
 pub(crate) fn count(least: u8, most: u8, bytes: &[u8]) -> Result<(u8, &[u8]), Stop>
-    ensures read { Gives (λ x. (x.0, x.1.now)) result (count_at least most bytes.now) }
+    ensures read { ReadsAs (λ x. (x.0, x.1.now)) result (count_at least most bytes.now) }
     ensures bounds { IfOk result (λ x. (least ≤ x.0) × (x.0 ≤ most)) }
 {
     let (number, rest) = byte(bytes)?;
@@ -105,7 +105,7 @@ pub(crate) fn count(least: u8, most: u8, bytes: &[u8]) -> Result<(u8, &[u8]), St
 /// Bytes behind their number.
 #[tactic(auto, unfolding(crate::specs::Reading::piece_at))]
 pub(crate) fn piece(bytes: &[u8]) -> Result<(&[u8], &[u8]), Stop>
-    ensures { Gives (λ x. (x.0.now, x.1.now)) result (piece_at bytes.now) }
+    ensures { ReadsAs (λ x. (x.0.now, x.1.now)) result (piece_at bytes.now) }
 {
     let (len, rest) = short(bytes)?;
     let len = len as usize;

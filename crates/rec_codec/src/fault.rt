@@ -24,7 +24,7 @@ impl From<Memory> for EncodeFault {
 /// Why bytes aren't decoded.
 #[derive(Clone, Copy, Debug, PartialEq, Eq)]
 pub enum DecodeFault {
-    /// They spell no body: the place, from 0, of the first element that isn't spelled, or of the first byte behind a whole
+    /// They spell no body: the offset, from 0, of the first element that isn't spelled, or of the first byte behind a whole
     /// body.
     Bad(usize),
     Memory,

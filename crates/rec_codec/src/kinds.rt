@@ -1,5 +1,5 @@
 ghost use Rattle.std.specs.Prelude.{◌≡◌};
-ghost use Rattle.rec_codec.specs.Answers.{Gives};
+ghost use Rattle.rec_codec.specs.Answers.{ReadsAs};
 ghost use Rattle.rec_codec.specs.Reading.{submit_at, init_at, read_at, named_write_at, inline_write_at, spawned_at, join_at, push_at, pop_at, begin_at, commit_at, finish_at, switch_at, trim_at, trim_tag_at, user_at, group_at};
 
 use crate::Body;
@@ -13,7 +13,7 @@ use std::alloc::Global;
 /// The fields of a call.
 #[tactic(auto, unfolding(crate::specs::Reading::submit_at))]
 pub(crate) fn submit(alloc: Global, bytes: &[u8]) -> Result<(Body, &[u8]), Stop>
-    ensures { Gives (λ x. (x.0, x.1.now)) result (submit_at bytes.now) }
+    ensures { ReadsAs (λ x. (x.0, x.1.now)) result (submit_at bytes.now) }
 {
     let mut rest = bytes;
     let path = path(1, &mut rest)?;
@@ -32,7 +32,7 @@ pub(crate) fn submit(alloc: Global, bytes: &[u8]) -> Result<(Body, &[u8]), Stop>
 /// The fields of a begin.
 #[tactic(auto, unfolding(crate::specs::Reading::init_at))]
 pub(crate) fn init(bytes: &[u8]) -> Result<(Body, &[u8]), Stop>
-    ensures { Gives (λ x. (x.0, x.1.now)) result (init_at bytes.now) }
+    ensures { ReadsAs (λ x. (x.0, x.1.now)) result (init_at bytes.now) }
 {
     let mut rest = bytes;
     let path = path(4, &mut rest)?;
@@ -42,7 +42,7 @@ pub(crate) fn init(bytes: &[u8]) -> Result<(Body, &[u8]), Stop>
 /// The fields of a marker.
 #[tactic(auto, unfolding(crate::specs::Reading::read_at))]
 pub(crate) fn read(alloc: Global, bytes: &[u8]) -> Result<(Body, &[u8]), Stop>
-    ensures { Gives (λ x. (x.0, x.1.now)) result (read_at bytes.now) }
+    ensures { ReadsAs (λ x. (x.0, x.1.now)) result (read_at bytes.now) }
 {
     let mut rest = bytes;
     let path = path(4, &mut rest)?;
@@ -54,7 +54,7 @@ pub(crate) fn read(alloc: Global, bytes: &[u8]) -> Result<(Body, &[u8]), Stop>
 /// The fields of a write whose value stands under its name.
 #[tactic(auto, unfolding(crate::specs::Reading::named_write_at))]
 pub(crate) fn named_write(alloc: Global, bytes: &[u8]) -> Result<(Body, &[u8]), Stop>
-    ensures { Gives (λ x. (x.0, x.1.now)) result (named_write_at bytes.now) }
+    ensures { ReadsAs (λ x. (x.0, x.1.now)) result (named_write_at bytes.now) }
 {
     let mut rest = bytes;
     let path = path(4, &mut rest)?;
@@ -76,7 +76,7 @@ pub(crate) fn named_write(alloc: Global, bytes: &[u8]) -> Result<(Body, &[u8]), 
 /// The fields of a write with its value.
 #[tactic(auto, unfolding(crate::specs::Reading::inline_write_at))]
 pub(crate) fn inline_write(alloc: Global, bytes: &[u8]) -> Result<(Body, &[u8]), Stop>
-    ensures { Gives (λ x. (x.0, x.1.now)) result (inline_write_at bytes.now) }
+    ensures { ReadsAs (λ x. (x.0, x.1.now)) result (inline_write_at bytes.now) }
 {
     let mut rest = bytes;
     let path = path(4, &mut rest)?;
@@ -99,7 +99,7 @@ pub(crate) fn inline_write(alloc: Global, bytes: &[u8]) -> Result<(Body, &[u8]),
 /// The fields of a spawn.
 #[tactic(auto, unfolding(crate::specs::Reading::spawned_at))]
 pub(crate) fn spawn(alloc: Global, bytes: &[u8]) -> Result<(Body, &[u8]), Stop>
-    ensures { Gives (λ x. (x.0, x.1.now)) result (spawned_at bytes.now) }
+    ensures { ReadsAs (λ x. (x.0, x.1.now)) result (spawned_at bytes.now) }
 {
     let mut rest = bytes;
     let path = path(3, &mut rest)?;
@@ -122,7 +122,7 @@ pub(crate) fn spawn(alloc: Global, bytes: &[u8]) -> Result<(Body, &[u8]), Stop>
 /// The fields of a join.
 #[tactic(auto, unfolding(crate::specs::Reading::join_at))]
 pub(crate) fn join(bytes: &[u8]) -> Result<(Body, &[u8]), Stop>
-    ensures { Gives (λ x. (x.0, x.1.now)) result (join_at bytes.now) }
+    ensures { ReadsAs (λ x. (x.0, x.1.now)) result (join_at bytes.now) }
 {
     let mut rest = bytes;
     let path = path(4, &mut rest)?;
@@ -141,7 +141,7 @@ pub(crate) fn join(bytes: &[u8]) -> Result<(Body, &[u8]), Stop>
 /// The fields of a push.
 #[tactic(auto, unfolding(crate::specs::Reading::push_at))]
 pub(crate) fn push(alloc: Global, bytes: &[u8]) -> Result<(Body, &[u8]), Stop>
-    ensures { Gives (λ x. (x.0, x.1.now)) result (push_at bytes.now) }
+    ensures { ReadsAs (λ x. (x.0, x.1.now)) result (push_at bytes.now) }
 {
     let mut rest = bytes;
     let path = path(4, &mut rest)?;
@@ -162,7 +162,7 @@ pub(crate) fn push(alloc: Global, bytes: &[u8]) -> Result<(Body, &[u8]), Stop>
 /// The fields of a pop.
 #[tactic(auto, unfolding(crate::specs::Reading::pop_at))]
 pub(crate) fn pop(alloc: Global, bytes: &[u8]) -> Result<(Body, &[u8]), Stop>
-    ensures { Gives (λ x. (x.0, x.1.now)) result (pop_at bytes.now) }
+    ensures { ReadsAs (λ x. (x.0, x.1.now)) result (pop_at bytes.now) }
 {
     let mut rest = bytes;
     let path = path(4, &mut rest)?;
@@ -174,7 +174,7 @@ pub(crate) fn pop(alloc: Global, bytes: &[u8]) -> Result<(Body, &[u8]), Stop>
 /// The fields of the begin of a transaction.
 #[tactic(auto, unfolding(crate::specs::Reading::begin_at))]
 pub(crate) fn begin(alloc: Global, bytes: &[u8]) -> Result<(Body, &[u8]), Stop>
-    ensures { Gives (λ x. (x.0, x.1.now)) result (begin_at bytes.now) }
+    ensures { ReadsAs (λ x. (x.0, x.1.now)) result (begin_at bytes.now) }
 {
     let mut rest = bytes;
     let path = path(4, &mut rest)?;
@@ -186,7 +186,7 @@ pub(crate) fn begin(alloc: Global, bytes: &[u8]) -> Result<(Body, &[u8]), Stop>
 /// The fields of the end of a transaction.
 #[tactic(auto, unfolding(crate::specs::Reading::commit_at))]
 pub(crate) fn commit(alloc: Global, bytes: &[u8]) -> Result<(Body, &[u8]), Stop>
-    ensures { Gives (λ x. (x.0, x.1.now)) result (commit_at bytes.now) }
+    ensures { ReadsAs (λ x. (x.0, x.1.now)) result (commit_at bytes.now) }
 {
     let mut rest = bytes;
     let path = path(4, &mut rest)?;
@@ -209,7 +209,7 @@ pub(crate) fn commit(alloc: Global, bytes: &[u8]) -> Result<(Body, &[u8]), Stop>
 /// The fields of an end.
 #[tactic(auto, unfolding(crate::specs::Reading::finish_at))]
 pub(crate) fn finish(alloc: Global, bytes: &[u8]) -> Result<(Body, &[u8]), Stop>
-    ensures { Gives (λ x. (x.0, x.1.now)) result (finish_at bytes.now) }
+    ensures { ReadsAs (λ x. (x.0, x.1.now)) result (finish_at bytes.now) }
 {
     let mut rest = bytes;
     let path = path(4, &mut rest)?;
@@ -228,7 +228,7 @@ pub(crate) fn finish(alloc: Global, bytes: &[u8]) -> Result<(Body, &[u8]), Stop>
 /// The field of the begin of a switch.
 #[tactic(auto, unfolding(crate::specs::Reading::switch_at))]
 pub(crate) fn switch(bytes: &[u8]) -> Result<(Body, &[u8]), Stop>
-    ensures { Gives (λ x. (x.0, x.1.now)) result (switch_at bytes.now) }
+    ensures { ReadsAs (λ x. (x.0, x.1.now)) result (switch_at bytes.now) }
 {
     let (target, rest) = target(bytes)?;
     Ok((Body::SwitchBegin { target }, rest))
@@ -237,7 +237,7 @@ pub(crate) fn switch(bytes: &[u8]) -> Result<(Body, &[u8]), Stop>
 /// The field of a floor.
 #[tactic(auto, unfolding(crate::specs::Reading::trim_at))]
 pub(crate) fn trim(bytes: &[u8]) -> Result<(Body, &[u8]), Stop>
-    ensures { Gives (λ x. (x.0, x.1.now)) result (trim_at bytes.now) }
+    ensures { ReadsAs (λ x. (x.0, x.1.now)) result (trim_at bytes.now) }
 {
     let (w, rest) = word(bytes)?;
     Ok((Body::Trim { w }, rest))
@@ -246,7 +246,7 @@ pub(crate) fn trim(bytes: &[u8]) -> Result<(Body, &[u8]), Stop>
 /// The fields of a trimmed tag.
 #[tactic(auto, unfolding(crate::specs::Reading::trim_tag_at))]
 pub(crate) fn trim_tag(bytes: &[u8]) -> Result<(Body, &[u8]), Stop>
-    ensures { Gives (λ x. (x.0, x.1.now)) result (trim_tag_at bytes.now) }
+    ensures { ReadsAs (λ x. (x.0, x.1.now)) result (trim_tag_at bytes.now) }
 {
     let (number, rest) = tag(bytes)?;
     let (upto, rest) = word(rest)?;
@@ -256,7 +256,7 @@ pub(crate) fn trim_tag(bytes: &[u8]) -> Result<(Body, &[u8]), Stop>
 /// The fields of a marker of several objects.
 #[tactic(auto, unfolding(crate::specs::Reading::group_at))]
 pub(crate) fn group(alloc: Global, bytes: &[u8]) -> Result<(Body, &[u8]), Stop>
-    ensures { Gives (λ x. (x.0, x.1.now)) result (group_at bytes.now) }
+    ensures { ReadsAs (λ x. (x.0, x.1.now)) result (group_at bytes.now) }
 {
     let mut rest = bytes;
     let path = path(4, &mut rest)?;
@@ -268,7 +268,7 @@ pub(crate) fn group(alloc: Global, bytes: &[u8]) -> Result<(Body, &[u8]), Stop>
 /// A user's bytes, of which there are at most 4,092.
 #[tactic(auto, unfolding(crate::specs::Reading::user_at, crate::specs::Reading::text_at))]
 pub(crate) fn user(alloc: Global, bytes: &[u8]) -> Result<(Body, &[u8]), Stop>
-    ensures { Gives (λ x. (x.0, x.1.now)) result (user_at bytes.now) }
+    ensures { ReadsAs (λ x. (x.0, x.1.now)) result (user_at bytes.now) }
 {
     let (piece, rest) = piece(bytes)?;
     if piece.len() > 4_092 {

@@ -8,6 +8,7 @@ mod fault;
 mod kinds;
 mod laws;
 mod lists;
+mod looking;
 mod names;
 mod pieces;
 mod spellings;
@@ -20,8 +21,6 @@ pub use decoding::decode;
 pub use encoding::encode;
 pub use fault::{DecodeFault, EncodeFault};
 pub use laws::{one_spelling, read_is_spelled, spelled_is_read};
-pub use tags::{key_tag, tags_of};
+pub use looking::{BodyKind, kind_of_bytes};
+pub use tags::{call_tag, key_tag, step_tag, tags_of};
 pub use trim::trim_tag_of;
-
-#[cfg(test)]
-mod tests;

@@ -1,5 +1,5 @@
 ghost use Rattle.std.specs.Prelude.{◌≡◌, ◌+◌, ◌<◌, ◌≤◌, [], ◌∷◌, length, IfOk};
-ghost use Rattle.rec_codec.specs.Answers.{Gives, with_front, with_one};
+ghost use Rattle.rec_codec.specs.Answers.{ReadsAs, with_front, with_one};
 ghost use Rattle.rec_codec.specs.Reading.{is_key, text_at, value_at, write_at, many_at, list_at, request_at, spawn_at, path_at};
 
 use crate::elements::{count, part};
@@ -11,7 +11,7 @@ use std::alloc::Global;
 /// Takes the number of a request, as a path.
 #[tactic(auto, unfolding(crate::specs::Reading::request_at))]
 fn request(bytes: &mut &[u8]) -> Result<Path, Stop>
-    ensures read { Gives (λ x. (x, bytes.new.now)) result (with_one [] (request_at bytes.old.now)) }
+    ensures read { ReadsAs (λ x. (x, bytes.new.now)) result (with_one [] (request_at bytes.old.now)) }
     ensures one { IfOk result (λ path. length path ≡ 1) }
 {
     let (number, rest) = part(bytes)?;
@@ -28,7 +28,7 @@ fn request(bytes: &mut &[u8]) -> Result<Path, Stop>
 #[tactic(auto, unfolding(crate::specs::Reading::spawn_at))]
 fn spawn(path: Path, bytes: &mut &[u8]) -> Result<Path, Stop>
     requires { length path < 4 }
-    ensures { Gives (λ x. (x, bytes.new.now)) result (with_one path (spawn_at bytes.old.now)) }
+    ensures { ReadsAs (λ x. (x, bytes.new.now)) result (with_one path (spawn_at bytes.old.now)) }
 {
     let (ordinal, rest) = part(bytes)?;
     match path.child(ordinal) {
@@ -43,7 +43,7 @@ fn spawn(path: Path, bytes: &mut &[u8]) -> Result<Path, Stop>
 /// Takes so many ordinals of spawns, and adds them to a path.
 fn spawns(path: Path, count: u8, bytes: &mut &[u8]) -> Result<Path, Stop>
     requires { length path + count ≤ 4 }
-    ensures { Gives (λ x. (x, bytes.new.now)) result (with_front path (many_at spawn_at count bytes.old.now)) }
+    ensures { ReadsAs (λ x. (x, bytes.new.now)) result (with_front path (many_at spawn_at count bytes.old.now)) }
 {
     let mut whole = path;
     for _ in 0..count {
@@ -56,7 +56,7 @@ fn spawns(path: Path, count: u8, bytes: &mut &[u8]) -> Result<Path, Stop>
 #[tactic(auto, unfolding(crate::specs::Reading::path_at))]
 pub(crate) fn path(most: u8, bytes: &mut &[u8]) -> Result<Path, Stop>
     requires { most ≤ 4 }
-    ensures { Gives (λ x. (x, bytes.new.now)) result (path_at most bytes.old.now) }
+    ensures { ReadsAs (λ x. (x, bytes.new.now)) result (path_at most bytes.old.now) }
 {
     let (count, rest) = count(1, most, bytes)?;
     *bytes = rest;
@@ -66,7 +66,7 @@ pub(crate) fn path(most: u8, bytes: &mut &[u8]) -> Result<Path, Stop>
 
 /// So many values, one behind the other.
 fn many_values(alloc: Global, count: u8, bytes: &[u8]) -> Result<(List<Value>, &[u8]), Stop>
-    ensures { Gives (λ x. (x.0, x.1.now)) result (many_at value_at count bytes.now) }
+    ensures { ReadsAs (λ x. (x.0, x.1.now)) result (many_at value_at count bytes.now) }
 {
     let mut list = List::new(alloc);
     let mut rest = bytes;
@@ -81,7 +81,7 @@ fn many_values(alloc: Global, count: u8, bytes: &[u8]) -> Result<(List<Value>, &
 /// At most eight values.
 #[tactic(auto, unfolding(crate::specs::Reading::list_at))]
 pub(crate) fn values(alloc: Global, bytes: &[u8]) -> Result<(List<Value>, &[u8]), Stop>
-    ensures { Gives (λ x. (x.0, x.1.now)) result (list_at 0 value_at bytes.now) }
+    ensures { ReadsAs (λ x. (x.0, x.1.now)) result (list_at 0 value_at bytes.now) }
 {
     let (count, rest) = count(0, 8, bytes)?;
     many_values(alloc, count, rest)
@@ -89,7 +89,7 @@ pub(crate) fn values(alloc: Global, bytes: &[u8]) -> Result<(List<Value>, &[u8])
 
 /// So many names, one behind the other.
 fn many_names(alloc: Global, count: u8, bytes: &[u8]) -> Result<(List<Words>, &[u8]), Stop>
-    ensures { Gives (λ x. (x.0, x.1.now)) result (many_at (text_at is_key) count bytes.now) }
+    ensures { ReadsAs (λ x. (x.0, x.1.now)) result (many_at (text_at is_key) count bytes.now) }
 {
     let mut list = List::new(alloc);
     let mut rest = bytes;
@@ -104,7 +104,7 @@ fn many_names(alloc: Global, count: u8, bytes: &[u8]) -> Result<(List<Words>, &[
 /// At most eight names, at least one.
 #[tactic(auto, unfolding(crate::specs::Reading::list_at))]
 pub(crate) fn names(alloc: Global, bytes: &[u8]) -> Result<(List<Words>, &[u8]), Stop>
-    ensures { Gives (λ x. (x.0, x.1.now)) result (list_at 1 (text_at is_key) bytes.now) }
+    ensures { ReadsAs (λ x. (x.0, x.1.now)) result (list_at 1 (text_at is_key) bytes.now) }
 {
     let (count, rest) = count(1, 8, bytes)?;
     many_names(alloc, count, rest)
@@ -116,7 +116,7 @@ fn many_writes(
     count: u8,
     bytes: &[u8],
 ) -> Result<(List<(Words, Value)>, &[u8]), Stop>
-    ensures { Gives (λ x. (x.0, x.1.now)) result (many_at write_at count bytes.now) }
+    ensures { ReadsAs (λ x. (x.0, x.1.now)) result (many_at write_at count bytes.now) }
 {
     let mut list = List::new(alloc);
     let mut rest = bytes;
@@ -131,7 +131,7 @@ fn many_writes(
 /// At most eight writes.
 #[tactic(auto, unfolding(crate::specs::Reading::list_at))]
 pub(crate) fn writes(alloc: Global, bytes: &[u8]) -> Result<(List<(Words, Value)>, &[u8]), Stop>
-    ensures { Gives (λ x. (x.0, x.1.now)) result (list_at 0 write_at bytes.now) }
+    ensures { ReadsAs (λ x. (x.0, x.1.now)) result (list_at 0 write_at bytes.now) }
 {
     let (count, rest) = count(0, 8, bytes)?;
     many_writes(alloc, count, rest)

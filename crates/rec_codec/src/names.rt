@@ -1,7 +1,7 @@
 ghost use Rattle.std.specs.Prelude.{◌≡◌, true, false, bytes_eq, ◌||◌, MatchOption};
 ghost use Rattle.std.specs.List.{list_all, list_any};
 ghost use Rattle.std.specs.Str.{is_utf8};
-ghost use Rattle.boki_model.specs.Bodies.{is_letter as letter, is_digit as digit, is_word_text, is_identifier, reserved};
+ghost use Rattle.boki_model.specs.Bodies.{is_letter as letter, is_digit as digit, has_identifier_characters, is_identifier, reserved_words};
 
 use std::str;
 
@@ -34,25 +34,25 @@ fn is_one_of(name: &str, words: &[&str]) -> bool
 
 /// Whether a name is a word of the script language.
 fn is_reserved(name: &str) -> bool
-    ensures { result ≡ list_any (bytes_eq name.now) reserved }
+    ensures { result ≡ list_any (bytes_eq name.now) reserved_words }
 {
     is_one_of(name, &RESERVED)
 }
 
 /// Whether bytes are letters and digits.
-fn are_letters(bytes: &[u8]) -> bool
+fn are_letters_or_digits(bytes: &[u8]) -> bool
     ensures { result ≡ list_all (λ c. letter c || digit c) bytes.now }
 {
     bytes.iter().all(|c| is_letter(*c) || is_digit(*c))
 }
 
 /// Whether bytes are letters, digits and `_`, at least one, and no digit first.
-fn is_word(bytes: &[u8]) -> bool
-    ensures { result ≡ is_word_text bytes.now }
+fn has_identifier_form(bytes: &[u8]) -> bool
+    ensures { result ≡ has_identifier_characters bytes.now }
 {
     match bytes {
         [] => false,
-        [first, rest @ ..] => is_letter(*first) && are_letters(rest),
+        [first, rest @ ..] => is_letter(*first) && are_letters_or_digits(rest),
     }
 }
 
@@ -60,11 +60,11 @@ fn is_word(bytes: &[u8]) -> bool
 pub(crate) fn is_function_name(name: &str) -> bool
     ensures { result ≡ is_identifier name.now }
 {
-    is_word(name.as_bytes()) && name.len() <= 32 && !is_reserved(name)
+    has_identifier_form(name.as_bytes()) && name.len() <= 32 && !is_reserved(name)
 }
 
 /// The text that bytes are, where they are UTF-8.
-pub(crate) fn text_in(bytes: &[u8]) -> Option<&str>
+pub(crate) fn utf8_text(bytes: &[u8]) -> Option<&str>
     ensures { MatchOption result (is_utf8 bytes.now ≡ false) (λ text. (text.now ≡ bytes.now) × (is_utf8 bytes.now ≡ true)) }
 {
     match str::from_utf8(bytes) {

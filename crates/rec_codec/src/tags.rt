@@ -4,12 +4,16 @@ ghost use Rattle.boki_model.specs.Bodies as bodies;
 ghost use Rattle.boki_model.specs.Bodies.{in_range};
 
 use crate::Body;
+use boki_model::tag_classes::{
+    CALL_CLASS, LIFE_CLASS, MODE_CLASS, OBJECT_CLASS, QUEUE_CLASS, STEP_CLASS, TRANSACTION_CLASS,
+    TRIM_CLASS, TRIMMED_TAG_CLASS,
+};
 use lb_base::{List, Memory, Path, Tag};
 use std::alloc::Global;
 
-/// The number that a name is folded to, below 2^56: FNV-1a of 64 bits, without its highest byte.
-fn fold(name: &str) -> u64
-    ensures { result ≡ bodies.name_number name.now }
+/// The hash of a name, below 2^56: FNV-1a of 64 bits, without its highest byte.
+fn name_hash_of(name: &str) -> u64
+    ensures { result ≡ bodies.name_hash name.now }
 {
     let mut hash: u64 = 14_695_981_039_346_656_037;
     for byte in name.as_bytes() {
@@ -27,14 +31,14 @@ fn tag_of(class: u8, number: u64) -> Tag
     Tag(u64::from(class) * 72_057_594_037_927_936 + number)
 }
 
-/// The tag of a name, of an object (class 5) or a queue (class 6).
+/// The tag of a name, of the class of objects or of queues.
 ///
 /// It needs a class of at most 9, and takes no memory. Names may share a tag.
 pub fn key_tag(class: u8, name: &str) -> Tag
     requires { class ≤ 9 }
-    ensures { result ≡ bodies.tag_of class (bodies.name_number name.now) }
+    ensures { result ≡ bodies.tag_of class (bodies.name_hash name.now) }
 {
-    tag_of(class, fold(name))
+    tag_of(class, name_hash_of(name))
 }
 
 /// The number of a path's request.
@@ -45,7 +49,7 @@ fn request(path: &Path) -> u64
     u64::from(path.parts()[0])
 }
 
-/// The ordinal at a place of a path, from 1, or 0 behind its end.
+/// The ordinal at an index of a path, from 1, or 0 behind its end.
 fn ordinal(path: &Path, at: usize) -> u64
     requires { 1 ≤ at }
     ensures value { result ≡ slice_index path.now at }
@@ -70,18 +74,18 @@ fn path_number(path: &Path) -> u64
         + ordinal(path, 3)
 }
 
-/// The tag of an invocation's call.
-fn call_tag(path: &Path) -> Tag
+/// The tag of an invocation's call. It takes no memory.
+pub fn call_tag(path: &Path) -> Tag
     ensures { result ≡ bodies.tag_of 1 (bodies.path_number path.now) }
 {
-    tag_of(1, path_number(path))
+    tag_of(CALL_CLASS, path_number(path))
 }
 
-/// The tag of an invocation's steps.
-fn step_tag(path: &Path) -> Tag
+/// The tag of an invocation's steps. It takes no memory.
+pub fn step_tag(path: &Path) -> Tag
     ensures { result ≡ bodies.tag_of 2 (bodies.path_number path.now) }
 {
-    tag_of(2, path_number(path))
+    tag_of(STEP_CLASS, path_number(path))
 }
 
 /// The path of a spawn.
@@ -102,10 +106,13 @@ pub fn tags_of(alloc: Global, body: &Body) -> Result<List<Tag>, Memory>
 {
     match body {
         Body::Submit { path, .. } => List::from_slice(alloc, &[call_tag(path)]),
-        Body::Init { path } => List::from_slice(alloc, &[step_tag(path), tag_of(9, 0)]),
+        Body::Init { path } => List::from_slice(alloc, &[step_tag(path), tag_of(LIFE_CLASS, 0)]),
         Body::Read { path, .. } => List::from_slice(alloc, &[step_tag(path)]),
         Body::Write { path, key, .. } => {
-            List::from_slice(alloc, &[step_tag(path), key_tag(5, key.as_str())])
+            List::from_slice(
+                alloc,
+                &[step_tag(path), key_tag(OBJECT_CLASS, key.as_str())],
+            )
         }
         Body::Spawn { path, ordinal, .. } => {
             let child = child(path, *ordinal);
@@ -113,18 +120,32 @@ pub fn tags_of(alloc: Global, body: &Body) -> Result<List<Tag>, Memory>
         }
         Body::Join { path, .. } => List::from_slice(alloc, &[step_tag(path)]),
         Body::Push { path, queue, .. } => {
-            List::from_slice(alloc, &[step_tag(path), key_tag(6, queue.as_str())])
+            List::from_slice(
+                alloc,
+                &[step_tag(path), key_tag(QUEUE_CLASS, queue.as_str())],
+            )
         }
         Body::Pop { path, queue, .. } => {
-            List::from_slice(alloc, &[step_tag(path), key_tag(6, queue.as_str())])
+            List::from_slice(
+                alloc,
+                &[step_tag(path), key_tag(QUEUE_CLASS, queue.as_str())],
+            )
         }
         Body::TxnBegin { path, .. } => List::from_slice(alloc, &[step_tag(path)]),
-        Body::TxnCommit { path, .. } => { List::from_slice(alloc, &[step_tag(path), tag_of(7, 0)]) }
-        Body::Finish { path, .. } => List::from_slice(alloc, &[step_tag(path), tag_of(9, 0)]),
-        Body::SwitchBegin { .. } => List::from_slice(alloc, &[tag_of(3, 0)]),
-        Body::SwitchEnd => List::from_slice(alloc, &[tag_of(3, 0)]),
-        Body::Trim { .. } => List::from_slice(alloc, &[tag_of(4, 0)]),
-        Body::TrimTag { number, .. } => List::from_slice(alloc, &[tag_of(8, *number)]),
+        Body::TxnCommit { path, .. } => {
+            List::from_slice(alloc, &[step_tag(path), tag_of(TRANSACTION_CLASS, 0)])
+        }
+        Body::Finish { path, .. } => List::from_slice(
+            alloc,
+            &[step_tag(path), tag_of(LIFE_CLASS, 0)],
+        ),
+        Body::SwitchBegin { .. } => List::from_slice(alloc, &[tag_of(MODE_CLASS, 0)]),
+        Body::SwitchEnd => List::from_slice(alloc, &[tag_of(MODE_CLASS, 0)]),
+        Body::Trim { .. } => List::from_slice(alloc, &[tag_of(TRIM_CLASS, 0)]),
+        Body::TrimTag { number, .. } => List::from_slice(
+            alloc,
+            &[tag_of(TRIMMED_TAG_CLASS, *number)],
+        ),
         Body::User { .. } => Ok(List::new(alloc)),
         Body::ReadGroup { path, .. } => List::from_slice(alloc, &[step_tag(path)]),
     }

@@ -1,20 +1,20 @@
 ghost use Rattle.std.specs.Prelude.{◌≡◌, ◌^◌, length};
-ghost use Rattle.rec_codec.specs.Answers.{Gives};
+ghost use Rattle.rec_codec.specs.Answers.{ReadsAs};
 ghost use Rattle.rec_codec.specs.Reading.{is_text, is_key, is_function, text_at, value_at, trap_of, trap_at, outcome_at, target_of, target_at, write_at};
 
 use crate::elements::{piece, word};
 use crate::fault::Stop;
-use crate::names::{is_function_name, text_in};
+use crate::names::{is_function_name, utf8_text};
 use lb_base::{Mode, Outcome, TrapKind, Value, Words};
 use std::alloc::Global;
 
 /// A text of at most 256 bytes.
 #[tactic(auto, unfolding(crate::specs::Reading::text_at))]
 pub(crate) fn text(alloc: Global, bytes: &[u8]) -> Result<(Words, &[u8]), Stop>
-    ensures { Gives (λ x. (x.0, x.1.now)) result (text_at is_text bytes.now) }
+    ensures { ReadsAs (λ x. (x.0, x.1.now)) result (text_at is_text bytes.now) }
 {
     let (piece, rest) = piece(bytes)?;
-    match text_in(piece) {
+    match utf8_text(piece) {
         Some(text) if text.len() <= 256 => Ok((Words::from_text(alloc, text)?, rest)),
         _ => Err(Stop::Left(bytes.len())),
     }
@@ -23,10 +23,10 @@ pub(crate) fn text(alloc: Global, bytes: &[u8]) -> Result<(Words, &[u8]), Stop>
 /// A name, of 1 to 64 bytes.
 #[tactic(auto, unfolding(crate::specs::Reading::text_at))]
 pub(crate) fn key(alloc: Global, bytes: &[u8]) -> Result<(Words, &[u8]), Stop>
-    ensures { Gives (λ x. (x.0, x.1.now)) result (text_at is_key bytes.now) }
+    ensures { ReadsAs (λ x. (x.0, x.1.now)) result (text_at is_key bytes.now) }
 {
     let (piece, rest) = piece(bytes)?;
-    match text_in(piece) {
+    match utf8_text(piece) {
         Some(text) if text.len() >= 1 && text.len() <= 64 => Ok((
             Words::from_text(alloc, text)?,
             rest,
@@ -38,10 +38,10 @@ pub(crate) fn key(alloc: Global, bytes: &[u8]) -> Result<(Words, &[u8]), Stop>
 /// The name of a function.
 #[tactic(auto, unfolding(crate::specs::Reading::text_at))]
 pub(crate) fn function(alloc: Global, bytes: &[u8]) -> Result<(Words, &[u8]), Stop>
-    ensures { Gives (λ x. (x.0, x.1.now)) result (text_at is_function bytes.now) }
+    ensures { ReadsAs (λ x. (x.0, x.1.now)) result (text_at is_function bytes.now) }
 {
     let (piece, rest) = piece(bytes)?;
-    match text_in(piece) {
+    match utf8_text(piece) {
         Some(text) if is_function_name(text) => Ok((Words::from_text(alloc, text)?, rest)),
         _ => Err(Stop::Left(bytes.len())),
     }
@@ -50,7 +50,7 @@ pub(crate) fn function(alloc: Global, bytes: &[u8]) -> Result<(Words, &[u8]), St
 /// A value.
 #[tactic(auto, unfolding(crate::specs::Reading::value_at))]
 pub(crate) fn value(alloc: Global, bytes: &[u8]) -> Result<(Value, &[u8]), Stop>
-    ensures { Gives (λ x. (x.0, x.1.now)) result (value_at bytes.now) }
+    ensures { ReadsAs (λ x. (x.0, x.1.now)) result (value_at bytes.now) }
 {
     match bytes {
         [] => Err(Stop::Left(0)),
@@ -88,7 +88,7 @@ fn trap_kind(number: u8) -> Option<TrapKind>
 /// The number of a trap.
 #[tactic(auto, unfolding(crate::specs::Reading::trap_at))]
 fn trap(bytes: &[u8]) -> Result<(TrapKind, &[u8]), Stop>
-    ensures { Gives (λ x. (x.0, x.1.now)) result (trap_at bytes.now) }
+    ensures { ReadsAs (λ x. (x.0, x.1.now)) result (trap_at bytes.now) }
 {
     match bytes {
         [] => Err(Stop::Left(0)),
@@ -102,7 +102,7 @@ fn trap(bytes: &[u8]) -> Result<(TrapKind, &[u8]), Stop>
 /// An outcome.
 #[tactic(auto, unfolding(crate::specs::Reading::outcome_at))]
 pub(crate) fn outcome(alloc: Global, bytes: &[u8]) -> Result<(Outcome, &[u8]), Stop>
-    ensures { Gives (λ x. (x.0, x.1.now)) result (outcome_at bytes.now) }
+    ensures { ReadsAs (λ x. (x.0, x.1.now)) result (outcome_at bytes.now) }
 {
     match bytes {
         [] => Err(Stop::Left(0)),
@@ -132,7 +132,7 @@ fn target_mode(number: u8) -> Option<Mode>
 /// The mode that a switch goes to.
 #[tactic(auto, unfolding(crate::specs::Reading::target_at))]
 pub(crate) fn target(bytes: &[u8]) -> Result<(Mode, &[u8]), Stop>
-    ensures { Gives (λ x. (x.0, x.1.now)) result (target_at bytes.now) }
+    ensures { ReadsAs (λ x. (x.0, x.1.now)) result (target_at bytes.now) }
 {
     match bytes {
         [] => Err(Stop::Left(0)),
@@ -146,7 +146,7 @@ pub(crate) fn target(bytes: &[u8]) -> Result<(Mode, &[u8]), Stop>
 /// A name and what is written under it.
 #[tactic(auto, unfolding(crate::specs::Reading::write_at))]
 pub(crate) fn write(alloc: Global, bytes: &[u8]) -> Result<((Words, Value), &[u8]), Stop>
-    ensures { Gives (λ x. (x.0, x.1.now)) result (write_at bytes.now) }
+    ensures { ReadsAs (λ x. (x.0, x.1.now)) result (write_at bytes.now) }
 {
     let (key, rest) = key(alloc, bytes)?;
     let (value, rest) = value(alloc, rest)?;

@@ -15,9 +15,9 @@ use Rattle.boki_types.specs.declared.expr.Expr.TheBlock.{shape-the_row-Expr-0, h
 use Rattle.boki_types.specs.declared.program.Function.{Function}
 use Rattle.boki_types.specs.declared.program.Stmt.{Stmt}
 use Rattle.boki_types.specs.declared.program.Stmt.TheVariants as stmts
-use Rattle.boki_model.specs.Plans.{sets}
-use Rattle.script_lang.specs.Names.{is_among, names_in, AreSameNames, vars_known, reads_known, spawn_fault, line_fault, numbered, lines_fault}
-use Rattle.script_lang.proofs.PrintLemmas.{drop_at}
+use Rattle.boki_model.specs.Plans.{variables_set}
+use Rattle.script_lang.specs.Names.{is_among, names_in, AreSameNames, vars_known, reads_known, spawn_fault, line_fault, fault_or_rest, lines_fault}
+use Rattle.line_text.proofs.ListLemmas.{drop_at}
 
 pub among_in : (name : List ℕ) (keys : List (Bor (List ℕ))) → list_any (λ k. bytes_eq name k.now) keys ≡ is_among (map (λ k. k.now) keys) name
 among_in name [] = refl
@@ -96,12 +96,12 @@ reads_same xs ys (stmts.ReadAll pairs) same = all_same _ _ pairs (λ p. vars_sam
 pub lines_same : (fs : List Function) (xs ys : List (List ℕ)) (ls : List Stmt) (ns : List ℕ) (i : ℕ) → AreSameNames xs ys → lines_fault fs xs ls ns i ≡ lines_fault fs ys ls ns i
 lines_same fs xs ys [] ns i same = refl
 lines_same fs xs ys (l ∷ ls) ns i same =
-    ap (λ t. numbered (get_or ns i 0) (cond t (spawn_fault fs l) (Some kinds.Name)) (lines_fault fs (xs ++ sets l) ls ns (i + 1))) (reads_same xs ys l same)
-    ∙ ap (numbered (get_or ns i 0) (line_fault fs ys l)) (lines_same fs (xs ++ sets l) (ys ++ sets l) ls ns (i + 1) (same_more xs ys (sets l) same))
+    ap (λ t. fault_or_rest (get_or ns i 0) (cond t (spawn_fault fs l) (Some kinds.Name)) (lines_fault fs (xs ++ variables_set l) ls ns (i + 1))) (reads_same xs ys l same)
+    ∙ ap (fault_or_rest (get_or ns i 0) (line_fault fs ys l)) (lines_same fs (xs ++ variables_set l) (ys ++ variables_set l) ls ns (i + 1) (same_more xs ys (variables_set l) same))
 
 -- behind a line with no fault
-pub line_passed : (fs : List Function) (known next : List (List ℕ)) (lines : List Stmt) (marks : List ℕ) (i : ℕ) (l : Stmt) → i < length lines → l ≡ get_or lines i l → line_fault fs known l ≡ None → AreSameNames next (known ++ sets l) → lines_fault fs known (drop i lines) marks (i + 1) ≡ lines_fault fs next (drop (i + 1) lines) marks (i + 1 + 1)
+pub line_passed : (fs : List Function) (known next : List (List ℕ)) (lines : List Stmt) (marks : List ℕ) (i : ℕ) (l : Stmt) → i < length lines → l ≡ get_or lines i l → line_fault fs known l ≡ None → AreSameNames next (known ++ variables_set l) → lines_fault fs known (drop i lines) marks (i + 1) ≡ lines_fault fs next (drop (i + 1) lines) marks (i + 1 + 1)
 line_passed fs known next lines marks i l h e none same =
     ap (λ ls. lines_fault fs known ls marks (i + 1)) (drop_at lines i l h e)
-    ∙ ap (λ f. numbered (get_or marks (i + 1) 0) f (lines_fault fs (known ++ sets l) (drop (i + 1) lines) marks (i + 1 + 1))) none
-    ∙ sym (lines_same fs next (known ++ sets l) (drop (i + 1) lines) marks (i + 1 + 1) same)
+    ∙ ap (λ f. fault_or_rest (get_or marks (i + 1) 0) f (lines_fault fs (known ++ variables_set l) (drop (i + 1) lines) marks (i + 1 + 1))) none
+    ∙ sym (lines_same fs next (known ++ variables_set l) (drop (i + 1) lines) marks (i + 1 + 1) same)

@@ -4,11 +4,11 @@ use Rattle.boki_types.specs.declared.expr.BinOp.{BinOp}
 use Rattle.boki_types.specs.declared.expr.BinOp.TheVariants as o
 use Rattle.boki_types.specs.declared.expr.Expr.{Expr, more_of-Expr, end_of-Expr}
 use Rattle.boki_types.specs.declared.expr.Expr.TheVariants as e
-use Rattle.script_lang.specs.declared.token.Key.TheVariants as k
-use Rattle.script_lang.specs.declared.token.Mark.TheVariants as m
-use Rattle.script_lang.specs.declared.token.Token.{Token}
-use Rattle.script_lang.specs.declared.token.Token.TheVariants as t
-use Rattle.script_lang.specs.Expressions.{rank, tight}
+use Rattle.line_text.specs.declared.token.Keyword.TheVariants as k
+use Rattle.line_text.specs.declared.token.Punctuation.TheVariants as m
+use Rattle.line_text.specs.declared.token.Token.{Token}
+use Rattle.line_text.specs.declared.token.Token.TheVariants as t
+use Rattle.script_lang.specs.Expressions.{precedence, left_precedence}
 
 -- a minus that a space follows is no sign
 abbrev pub op_token : BinOp → Token
@@ -16,24 +16,24 @@ op_token o.Sub = t.Minus false
 op_token op = t.Op op
 
 abbrev pub int_tokens : ℤ → List Token
-int_tokens (pos n) = t.Num (Some n) ∷ []
-int_tokens (negsuc n) = t.Minus true ∷ t.Num (Some (suc n)) ∷ []
+int_tokens (pos n) = t.Numeral (Some n) ∷ []
+int_tokens (negsuc n) = t.Minus true ∷ t.Numeral (Some (suc n)) ∷ []
 
 abbrev pub in_parens : Bool → List Token → List Token
 in_parens false ts = ts
-in_parens true ts = t.Mark m.Open ∷ (ts ++ t.Mark m.Close ∷ [])
+in_parens true ts = t.Punctuation m.Open ∷ (ts ++ t.Punctuation m.Close ∷ [])
 
 -- an expression as the operand of what binds as p
 abbrev pub tokens_of : ℕ → Expr → List Token
 tokens_of p (e.Int n) = int_tokens n
 tokens_of p (e.Text x) = t.Text x ∷ []
-tokens_of p e.Nothing = t.Key k.Nothing ∷ []
+tokens_of p e.Nothing = t.Keyword k.Nothing ∷ []
 tokens_of p (e.Var x) = t.Name x ∷ []
-tokens_of p (e.Not' p' (more_of-Expr a end_of-Expr)) = in_parens (nat_lt 3 p) (t.Key k.Not ∷ tokens_of 3 a)
+tokens_of p (e.Not' p' (more_of-Expr a end_of-Expr)) = in_parens (nat_lt 3 p) (t.Keyword k.Not ∷ tokens_of 3 a)
 tokens_of p (e.Two' op p' (more_of-Expr a end_of-Expr) q' (more_of-Expr b end_of-Expr)) =
-    in_parens (nat_lt (rank op) p) (tokens_of (tight (rank op)) a ++ op_token op ∷ tokens_of (rank op + 1) b)
-tokens_of p (e.TextOf' p' (more_of-Expr a end_of-Expr)) = t.Key k.TextOf ∷ t.Mark m.Open ∷ (tokens_of 0 a ++ t.Mark m.Close ∷ [])
-tokens_of p (e.Len' p' (more_of-Expr a end_of-Expr)) = t.Key k.Len ∷ t.Mark m.Open ∷ (tokens_of 0 a ++ t.Mark m.Close ∷ [])
+    in_parens (nat_lt (precedence op) p) (tokens_of (left_precedence (precedence op)) a ++ op_token op ∷ tokens_of (precedence op + 1) b)
+tokens_of p (e.TextOf' p' (more_of-Expr a end_of-Expr)) = t.Keyword k.TextOf ∷ t.Punctuation m.Open ∷ (tokens_of 0 a ++ t.Punctuation m.Close ∷ [])
+tokens_of p (e.Len' p' (more_of-Expr a end_of-Expr)) = t.Keyword k.Len ∷ t.Punctuation m.Open ∷ (tokens_of 0 a ++ t.Punctuation m.Close ∷ [])
 
 abbrev pub deeper : Bool → ℕ → ℕ
 deeper false d = d
@@ -43,7 +43,7 @@ deeper true d = d + 1
 abbrev pub depth_of : ℕ → Expr → ℕ
 depth_of p (e.Not' p' (more_of-Expr a end_of-Expr)) = deeper (nat_lt 3 p) (depth_of 3 a + 1)
 depth_of p (e.Two' op p' (more_of-Expr a end_of-Expr) q' (more_of-Expr b end_of-Expr)) =
-    deeper (nat_lt (rank op) p) (max (depth_of (tight (rank op)) a) (depth_of (rank op + 1) b))
+    deeper (nat_lt (precedence op) p) (max (depth_of (left_precedence (precedence op)) a) (depth_of (precedence op + 1) b))
 depth_of p (e.TextOf' p' (more_of-Expr a end_of-Expr)) = depth_of 0 a + 1
 depth_of p (e.Len' p' (more_of-Expr a end_of-Expr)) = depth_of 0 a + 1
 depth_of p _ = 0

@@ -1,11 +1,7 @@
-pub mod Tokens
-pub mod Stream
-pub mod Lines
 pub mod Expressions
-pub mod Reading
+pub mod ReadSteps
 pub mod Statements
-pub mod Lists
-pub mod Making
+pub mod StatementForms
 pub mod Functions
 pub mod Names
 pub mod Texts

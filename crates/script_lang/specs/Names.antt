@@ -10,7 +10,7 @@ use Rattle.boki_types.specs.declared.expr.Expr.TheVariants as e
 use Rattle.boki_types.specs.declared.program.Function.{Function}
 use Rattle.boki_types.specs.declared.program.Stmt.{Stmt}
 use Rattle.boki_types.specs.declared.program.Stmt.TheVariants as s
-use Rattle.boki_model.specs.Plans.{sets, distinct}
+use Rattle.boki_model.specs.Plans.{variables_set, distinct}
 
 -- whether a name is among these
 abbrev pub is_among : List (List ℕ) → List ℕ → Bool
@@ -68,36 +68,36 @@ abbrev pub line_fault : List Function → List (List ℕ) → Stmt → Option Ki
 line_fault fs known l = if reads_known known l then spawn_fault fs l else Some kind.Name
 
 -- a fault with the number of its line, or else those behind it
-abbrev pub numbered : ℕ → Option Kind → Option (ℕ × Kind) → Option (ℕ × Kind)
-numbered n (Some k) rest = Some (n, k)
-numbered n None rest = rest
+abbrev pub fault_or_rest : ℕ → Option Kind → Option (ℕ × Kind) → Option (ℕ × Kind)
+fault_or_rest n (Some k) rest = Some (n, k)
+fault_or_rest n None rest = rest
 
 -- The first fault among the lines of a function. A variable is known where it is a parameter, or a line above sets it; the
 -- numbers of the lines are those of ns from the place i on.
 abbrev pub lines_fault : List Function → List (List ℕ) → List Stmt → List ℕ → ℕ → Option (ℕ × Kind)
 lines_fault fs known [] ns i = None
 lines_fault fs known (l ∷ ls) ns i =
-    numbered (get_or ns i 0) (line_fault fs known l) (lines_fault fs (known ++ sets l) ls ns (i + 1))
+    fault_or_rest (get_or ns i 0) (line_fault fs known l) (lines_fault fs (known ++ variables_set l) ls ns (i + 1))
 
 -- the head of a function: its name is given twice, or a parameter
-abbrev pub head_fault : List Function → Function → Option Kind
-head_fault before f =
+abbrev pub function_head_fault : List Function → Function → Option Kind
+function_head_fault before f =
     if list_any (λ g. bytes_eq f.name g.name) before || not (distinct f.params) then Some kind.Name else None
 
 -- the number of the head is the first
 abbrev pub function_fault : List Function → List Function → Function → List ℕ → Option (ℕ × Kind)
 function_fault fs before f ns =
-    numbered (get_or ns 0 0) (head_fault before f) (lines_fault fs f.params f.lines ns 1)
+    fault_or_rest (get_or ns 0 0) (function_head_fault before f) (lines_fault fs f.params f.lines ns 1)
 
-abbrev pub or_else : Option (ℕ × Kind) → Option (ℕ × Kind) → Option (ℕ × Kind)
-or_else (Some fault) rest = Some fault
-or_else None rest = rest
+abbrev pub fault_or_else : Option (ℕ × Kind) → Option (ℕ × Kind) → Option (ℕ × Kind)
+fault_or_else (Some fault) rest = Some fault
+fault_or_else None rest = rest
 
 -- the first fault among the functions from the place i on, whose lines' numbers are in ms
 abbrev pub functions_fault : List Function → List Function → List (List ℕ) → ℕ → Option (ℕ × Kind)
 functions_fault fs [] ms i = None
 functions_fault fs (f ∷ rest) ms i =
-    or_else (function_fault fs (take i fs) f (get_or ms i [])) (functions_fault fs rest ms (i + 1))
+    fault_or_else (function_fault fs (take i fs) f (get_or ms i [])) (functions_fault fs rest ms (i + 1))
 
 -- the first line with a fault, and which it is
 abbrev pub name_fault : List Function → List (List ℕ) → Option (ℕ × Kind)

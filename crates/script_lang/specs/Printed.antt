@@ -10,7 +10,7 @@ use Rattle.boki_types.specs.declared.expr.Expr.TheVariants as e
 use Rattle.boki_types.specs.declared.program.Function.{Function}
 use Rattle.boki_types.specs.declared.program.Stmt.{Stmt}
 use Rattle.boki_types.specs.declared.program.Stmt.TheVariants as s
-use Rattle.script_lang.specs.Expressions.{rank, tight}
+use Rattle.script_lang.specs.Expressions.{precedence, left_precedence}
 
 -- one text behind another
 infixr 30 ◌&◌
@@ -33,9 +33,9 @@ op_text o.Mul = codes "*"
 op_text o.Div = codes "/"
 op_text o.Rem = codes "%"
 
-abbrev pub wrapped : Bool → List ℕ → List ℕ
-wrapped false text = text
-wrapped true text = codes "(" & text & codes ")"
+abbrev pub paren_text : Bool → List ℕ → List ℕ
+paren_text false text = text
+paren_text true text = codes "(" & text & codes ")"
 
 -- an expression as the operand of what binds as p: in parentheses where it binds less tightly
 abbrev pub expr_text : ℕ → Expr → List ℕ
@@ -43,23 +43,23 @@ expr_text p (e.Int n) = signed_decimal n
 expr_text p (e.Text x) = quoted x
 expr_text p e.Nothing = codes "none"
 expr_text p (e.Var x) = x
-expr_text p (e.Not' p' (more_of-Expr a end_of-Expr)) = wrapped (nat_lt 3 p) (codes "not " & expr_text 3 a)
+expr_text p (e.Not' p' (more_of-Expr a end_of-Expr)) = paren_text (nat_lt 3 p) (codes "not " & expr_text 3 a)
 expr_text p (e.Two' o p' (more_of-Expr a end_of-Expr) q' (more_of-Expr b end_of-Expr)) =
-    wrapped (nat_lt (rank o) p) (expr_text (tight (rank o)) a & codes " " & op_text o & codes " " & expr_text (rank o + 1) b)
+    paren_text (nat_lt (precedence o) p) (expr_text (left_precedence (precedence o)) a & codes " " & op_text o & codes " " & expr_text (precedence o + 1) b)
 expr_text p (e.TextOf' p' (more_of-Expr a end_of-Expr)) = codes "text(" & expr_text 0 a & codes ")"
 expr_text p (e.Len' p' (more_of-Expr a end_of-Expr)) = codes "len(" & expr_text 0 a & codes ")"
 
-abbrev pub whole_text : Expr → List ℕ
-whole_text x = expr_text 0 x
+abbrev pub top_expr_text : Expr → List ℕ
+top_expr_text x = expr_text 0 x
 
 -- texts with `, ` between them
-abbrev pub behind_comma : {A : Type 0} → (A → List ℕ) → List A → List ℕ
-behind_comma print [] = []
-behind_comma print (x ∷ xs) = codes ", " & print x & behind_comma print xs
+abbrev pub each_behind_comma : {A : Type 0} → (A → List ℕ) → List A → List ℕ
+each_behind_comma print [] = []
+each_behind_comma print (x ∷ xs) = codes ", " & print x & each_behind_comma print xs
 
-abbrev pub listed : {A : Type 0} → (A → List ℕ) → List A → List ℕ
-listed print [] = []
-listed print (x ∷ xs) = print x & behind_comma print xs
+abbrev pub comma_joined : {A : Type 0} → (A → List ℕ) → List A → List ℕ
+comma_joined print [] = []
+comma_joined print (x ∷ xs) = print x & each_behind_comma print xs
 
 -- a text, with a comma before it where it isn't the first
 abbrev pub comma_before : Bool → List ℕ → List ℕ
@@ -67,11 +67,11 @@ comma_before true text = text
 comma_before false text = codes ", " & text
 
 -- a name or an expression, `=`, and an expression
-abbrev pub named_text : List ℕ × Expr → List ℕ
-named_text p = p.0 & codes " = " & whole_text p.1
+abbrev pub assignment_text : List ℕ × Expr → List ℕ
+assignment_text p = p.0 & codes " = " & top_expr_text p.1
 
-abbrev pub pair_text : Expr × Expr → List ℕ
-pair_text p = whole_text p.0 & codes " = " & whole_text p.1
+abbrev pub write_pair_text : Expr × Expr → List ℕ
+write_pair_text p = top_expr_text p.0 & codes " = " & top_expr_text p.1
 
 abbrev pub name_text : List ℕ → List ℕ
 name_text x = x
@@ -79,24 +79,24 @@ name_text x = x
 -- `let V = commit`, and what it writes
 abbrev pub commit_text : List ℕ → List (Expr × Expr) → List ℕ
 commit_text x [] = codes "let " & x & codes " = commit"
-commit_text x (p ∷ ps) = codes "let " & x & codes " = commit " & listed pair_text (p ∷ ps)
+commit_text x (p ∷ ps) = codes "let " & x & codes " = commit " & comma_joined write_pair_text (p ∷ ps)
 
 abbrev pub stmt_text : Stmt → List ℕ
-stmt_text (s.Let x a) = codes "let " & x & codes " = " & codes "" & whole_text a
-stmt_text (s.Read x a) = codes "let " & x & codes " = " & codes "read " & whole_text a
-stmt_text (s.Write a b) = codes "write " & whole_text a & codes ", " & whole_text b
-stmt_text (s.Spawn x f es) = codes "let " & x & codes " = spawn " & f & codes "(" & listed whole_text es & codes ")"
-stmt_text (s.Join x a) = codes "let " & x & codes " = " & codes "join " & whole_text a
-stmt_text (s.Push a b) = codes "push " & whole_text a & codes ", " & whole_text b
-stmt_text (s.Pop x a) = codes "let " & x & codes " = " & codes "pop " & whole_text a
-stmt_text (s.Begin pairs) = codes "begin " & listed named_text pairs
+stmt_text (s.Let x a) = codes "let " & x & codes " = " & codes "" & top_expr_text a
+stmt_text (s.Read x a) = codes "let " & x & codes " = " & codes "read " & top_expr_text a
+stmt_text (s.Write a b) = codes "write " & top_expr_text a & codes ", " & top_expr_text b
+stmt_text (s.Spawn x f es) = codes "let " & x & codes " = spawn " & f & codes "(" & comma_joined top_expr_text es & codes ")"
+stmt_text (s.Join x a) = codes "let " & x & codes " = " & codes "join " & top_expr_text a
+stmt_text (s.Push a b) = codes "push " & top_expr_text a & codes ", " & top_expr_text b
+stmt_text (s.Pop x a) = codes "let " & x & codes " = " & codes "pop " & top_expr_text a
+stmt_text (s.Begin pairs) = codes "begin " & comma_joined assignment_text pairs
 stmt_text (s.Commit x pairs) = commit_text x pairs
-stmt_text (s.If a) = codes "if " & whole_text a
+stmt_text (s.If a) = codes "if " & top_expr_text a
 stmt_text s.Else = codes "else"
-stmt_text (s.While a) = codes "while " & whole_text a
+stmt_text (s.While a) = codes "while " & top_expr_text a
 stmt_text s.End = codes "end"
-stmt_text (s.Return a) = codes "return " & whole_text a
-stmt_text (s.ReadAll pairs) = codes "read all " & listed named_text pairs
+stmt_text (s.Return a) = codes "return " & top_expr_text a
+stmt_text (s.ReadAll pairs) = codes "read all " & comma_joined assignment_text pairs
 
 -- how far in a line stands where so many blocks are open before it, and how many are behind it
 abbrev pub line_depth : ℕ → Stmt → ℕ
@@ -104,22 +104,22 @@ line_depth n s.Else = n - 1
 line_depth n s.End = n - 1
 line_depth n _ = n
 
-abbrev pub depth_behind : ℕ → Stmt → ℕ
-depth_behind n (s.If a) = n + 1
-depth_behind n (s.While a) = n + 1
-depth_behind n s.End = n - 1
-depth_behind n _ = n
+abbrev pub next_depth : ℕ → Stmt → ℕ
+next_depth n (s.If a) = n + 1
+next_depth n (s.While a) = n + 1
+next_depth n s.End = n - 1
+next_depth n _ = n
 
 abbrev pub indent : ℕ → List ℕ
 indent zero = []
 indent (suc n) = codes "  " & indent n
 
-abbrev pub line_text : ℕ → Stmt → List ℕ
-line_text n l = indent (line_depth n l) & stmt_text l & codes "\n"
+abbrev pub stmt_line_text : ℕ → Stmt → List ℕ
+stmt_line_text n l = indent (line_depth n l) & stmt_text l & codes "\n"
 
-abbrev pub lines_text : ℕ → List Stmt → List ℕ
-lines_text n [] = []
-lines_text n (l ∷ ls) = line_text n l & lines_text (depth_behind n l) ls
+abbrev pub stmt_lines_text : ℕ → List Stmt → List ℕ
+stmt_lines_text n [] = []
+stmt_lines_text n (l ∷ ls) = stmt_line_text n l & stmt_lines_text (next_depth n l) ls
 
 abbrev pub function_text : Function → List ℕ
-function_text f = codes "function " & f.name & codes "(" & listed name_text f.params & codes ")\n" & lines_text 1 f.lines & codes "end\n"
+function_text f = codes "function " & f.name & codes "(" & comma_joined name_text f.params & codes ")\n" & stmt_lines_text 1 f.lines & codes "end\n"

@@ -1,7 +1,7 @@
 //! The blocks that are open in a function.
 
 ghost use Rattle.std.specs.Prelude.{◌≡◌, [], ◌∷◌, length, OnOk, IfOk, MatchOption};
-ghost use Rattle.script_lang.specs.Functions.{else_placed, end_placed, opened};
+ghost use Rattle.script_lang.specs.Functions.{nest_else, nest_end, nest_block};
 
 use lb_base::Memory;
 use std::alloc::Global;
@@ -25,11 +25,11 @@ impl Model for Blocks {
 /// Where a line stands: in the function with these blocks open behind it, at the function's own end, nowhere, or in a block too
 /// many.
 #[derive(Debug, Drop)]
-pub enum Placing {
-    Line(Blocks),
-    Ends,
-    Bad,
-    Deep,
+pub enum Nesting {
+    Within(Blocks),
+    FunctionEnd,
+    Misplaced,
+    TooDeep,
 }
 
 /// The most blocks in a function, without the function itself.
@@ -65,38 +65,38 @@ impl Blocks {
     }
 
     /// At a line that opens a block.
-    pub(crate) fn at_opening(mut self, takes_else: bool) -> Result<Placing, Memory>
-        ensures { IfOk result (λ placing. placing ≡ opened takes_else self) }
+    pub(crate) fn at_opening(mut self, takes_else: bool) -> Result<Nesting, Memory>
+        ensures { IfOk result (λ placing. placing ≡ nest_block takes_else self) }
     {
         if self.len() < MOST_BLOCKS {
             self.push(takes_else)?;
-            Ok(Placing::Line(self))
+            Ok(Nesting::Within(self))
         } else {
-            Ok(Placing::Deep)
+            Ok(Nesting::TooDeep)
         }
     }
 
     /// At an `else`.
-    pub(crate) fn at_else(mut self) -> Result<Placing, Memory>
-        ensures { IfOk result (λ placing. placing ≡ else_placed self) }
+    pub(crate) fn at_else(mut self) -> Result<Nesting, Memory>
+        ensures { IfOk result (λ placing. placing ≡ nest_else self) }
     {
         match self.pop() {
             Some(true) => {
                 self.push(false)?;
-                Ok(Placing::Line(self))
+                Ok(Nesting::Within(self))
             }
-            Some(false) => Ok(Placing::Bad),
-            None => Ok(Placing::Bad),
+            Some(false) => Ok(Nesting::Misplaced),
+            None => Ok(Nesting::Misplaced),
         }
     }
 
     /// At an `end`.
-    pub(crate) fn at_end(mut self) -> Placing
-        ensures { result ≡ end_placed self }
+    pub(crate) fn at_end(mut self) -> Nesting
+        ensures { result ≡ nest_end self }
     {
         match self.pop() {
-            Some(_) => Placing::Line(self),
-            None => Placing::Ends,
+            Some(_) => Nesting::Within(self),
+            None => Nesting::FunctionEnd,
         }
     }
 }

@@ -1,20 +1,16 @@
 //! Functions, line by line.
 
 ghost use Rattle.std.specs.Prelude.{◌≡◌, IfOk};
-ghost use Rattle.script_lang.specs.Functions.{LineGives, placing, begun, placed, lined, draft_line, take_line, no_draft, is_inside};
+ghost use Rattle.line_text.specs.Faults.{LineGives};
+ghost use Rattle.script_lang.specs.Functions.{nesting_of, draft_with_head, draft_with_nested, draft_with_stmt, draft_line, take_line, empty_draft, is_in_function};
 
-use crate::blocks::{Blocks, Placing};
-use crate::fault::LineFault;
-use crate::lines::Line;
-use crate::rated::Rated;
-use crate::statements::{read_head, read_stmt};
-use crate::tokens::Tokens;
+use crate::blocks::{Blocks, Nesting};
+use crate::statements::{read_function_head, read_stmt};
+use boki_model::limits::MAX_FUNCTIONS;
 use boki_types::{Function, Kind, Stmt};
 use lb_base::{List, Memory, Words};
+use line_text::{Checked, LexedLine, LineFault, Tokens, valid_or_fault};
 use std::alloc::Global;
-
-/// The most functions of a program.
-const MOST_FUNCTIONS: usize = 256;
 
 /// Where the next line stands: between functions, or in one, with the numbers of its head and of its lines so far.
 #[derive(Drop)]
@@ -25,24 +21,24 @@ pub enum Stage {
 
 /// The functions that were read so far, line by line.
 ///
-/// `marks` has, for each function in `functions`, the number of its head and then those of its lines.
+/// `line_numbers` has, for each function in `functions`, the number of its head and then those of its lines.
 #[derive(Drop)]
 pub struct Draft {
     pub functions: List<Function>,
-    pub marks: List<List<u64>>,
+    pub line_numbers: List<List<u64>>,
     pub stage: Stage,
 }
 
 /// Where a statement stands.
-fn place_stmt(blocks: Blocks, stmt: &Stmt) -> Result<Placing, Memory>
-    ensures { IfOk result (λ r. r ≡ placing blocks stmt.now) }
+fn nest_stmt(blocks: Blocks, stmt: &Stmt) -> Result<Nesting, Memory>
+    ensures { IfOk result (λ r. r ≡ nesting_of blocks stmt.now) }
 {
     match stmt {
         Stmt::If(_) => blocks.at_opening(true),
         Stmt::While(_) => blocks.at_opening(false),
         Stmt::Else => blocks.at_else(),
         Stmt::End => Ok(blocks.at_end()),
-        _ => Ok(Placing::Line(blocks)),
+        _ => Ok(Nesting::Within(blocks)),
     }
 }
 
@@ -51,52 +47,46 @@ fn begin_function(
     alloc: Global,
     number: u64,
     functions: List<Function>,
-    marks: List<List<u64>>,
-    head: Option<Rated<(Words, List<Words>)>>,
+    line_numbers: List<List<u64>>,
+    head: Option<Checked<(Words, List<Words>)>>,
 ) -> Result<Draft, LineFault>
-    ensures { LineGives result (begun number functions marks head) }
+    ensures { LineGives result (draft_with_head number functions line_numbers head) }
 {
-    match head {
-        None => Err(LineFault::Refused(Kind::Syntax)),
-        Some(Rated::Wide) => Err(LineFault::Refused(Kind::Range)),
-        Some(Rated::Deep) => Err(LineFault::Refused(Kind::Deep)),
-        Some(Rated::Fine((name, params))) => {
-            if functions.len() >= MOST_FUNCTIONS {
-                return Err(LineFault::Refused(Kind::Range));
-            }
-            let function = Function {
-                name,
-                params,
-                lines: List::new(alloc),
-            };
-            let mut numbers = List::new(alloc);
-            numbers.push(number)?;
-            Ok(Draft {
-                functions,
-                marks,
-                stage: Stage::Inside(function, numbers, Blocks::new(alloc)),
-            })
-        }
+    let (name, params) = valid_or_fault(head)?;
+    if functions.len() >= MAX_FUNCTIONS {
+        return Err(LineFault::Refused(Kind::Range));
     }
+    let mut numbers = List::new(alloc);
+    numbers.push(number)?;
+    let function = Function {
+        name,
+        params,
+        lines: List::new(alloc),
+    };
+    Ok(Draft {
+        functions,
+        line_numbers,
+        stage: Stage::Inside(function, numbers, Blocks::new(alloc)),
+    })
 }
 
 /// A line of a function, where it stands well.
-fn add_placed(
+fn add_nested(
     number: u64,
     functions: List<Function>,
-    marks: List<List<u64>>,
+    line_numbers: List<List<u64>>,
     function: Function,
     numbers: List<u64>,
     stmt: Stmt,
-    place: Placing,
+    place: Nesting,
 ) -> Result<Draft, LineFault>
-    ensures { LineGives result (placed number functions marks function numbers stmt place) }
+    ensures { LineGives result (draft_with_nested number functions line_numbers function numbers stmt place) }
 {
     let mut functions = functions;
-    let mut marks = marks;
+    let mut line_numbers = line_numbers;
     let mut numbers = numbers;
     match place {
-        Placing::Line(blocks) => {
+        Nesting::Within(blocks) => {
             let Function {
                 name,
                 params,
@@ -111,21 +101,28 @@ fn add_placed(
             };
             Ok(Draft {
                 functions,
-                marks,
+                line_numbers,
                 stage: Stage::Inside(function, numbers, blocks),
             })
         }
-        Placing::Ends => {
+        Nesting::FunctionEnd => {
+            drop(stmt);
             functions.push(function)?;
-            marks.push(numbers)?;
+            line_numbers.push(numbers)?;
             Ok(Draft {
                 functions,
-                marks,
+                line_numbers,
                 stage: Stage::Between,
             })
         }
-        Placing::Bad => Err(LineFault::Refused(Kind::Syntax)),
-        Placing::Deep => Err(LineFault::Refused(Kind::Deep)),
+        Nesting::Misplaced => {
+            drop((function, stmt));
+            Err(LineFault::Refused(Kind::Syntax))
+        }
+        Nesting::TooDeep => {
+            drop((function, stmt));
+            Err(LineFault::Refused(Kind::Deep))
+        }
     }
 }
 
@@ -133,40 +130,45 @@ fn add_placed(
 fn add_stmt(
     number: u64,
     functions: List<Function>,
-    marks: List<List<u64>>,
+    line_numbers: List<List<u64>>,
     function: Function,
     numbers: List<u64>,
     blocks: Blocks,
-    stmt: Option<Rated<Stmt>>,
+    stmt: Option<Checked<Stmt>>,
 ) -> Result<Draft, LineFault>
-    ensures { LineGives result (lined number functions marks function numbers blocks stmt) }
+    ensures { LineGives result (draft_with_stmt number functions line_numbers function numbers blocks stmt) }
 {
-    match stmt {
-        None => Err(LineFault::Refused(Kind::Syntax)),
-        Some(Rated::Wide) => Err(LineFault::Refused(Kind::Range)),
-        Some(Rated::Deep) => Err(LineFault::Refused(Kind::Deep)),
-        Some(Rated::Fine(stmt)) => {
-            let place = place_stmt(blocks, &stmt)?;
-            add_placed(number, functions, marks, function, numbers, stmt, place)
-        }
-    }
+    let stmt = valid_or_fault(stmt)?;
+    let Ok(place) = nest_stmt(blocks, &stmt) else {
+        drop(stmt);
+        return Err(LineFault::Memory);
+    };
+    add_nested(
+        number,
+        functions,
+        line_numbers,
+        function,
+        numbers,
+        stmt,
+        place,
+    )
 }
 
 impl Draft {
     /// No function yet.
     pub fn new(alloc: Global) -> Draft
-        ensures { result ≡ no_draft }
+        ensures { result ≡ empty_draft }
     {
         Draft {
             functions: List::new(alloc),
-            marks: List::new(alloc),
+            line_numbers: List::new(alloc),
             stage: Stage::Between,
         }
     }
 
     /// Whether the next line stands in a function.
-    pub fn is_inside(&self) -> bool
-        ensures { result ≡ is_inside self.now.stage }
+    pub fn is_in_function(&self) -> bool
+        ensures { result ≡ is_in_function self.now.stage }
     {
         match self.stage {
             Stage::Between => false,
@@ -186,17 +188,25 @@ impl Draft {
     {
         let Draft {
             functions,
-            marks,
+            line_numbers,
             stage,
         } = self;
         match stage {
             Stage::Between => {
-                let head = read_head(alloc, tokens)?;
-                begin_function(alloc, number, functions, marks, head)
+                let head = read_function_head(alloc, tokens)?;
+                begin_function(alloc, number, functions, line_numbers, head)
             }
             Stage::Inside(function, numbers, blocks) => {
                 let stmt = read_stmt(alloc, tokens)?;
-                add_stmt(number, functions, marks, function, numbers, blocks, stmt)
+                add_stmt(
+                    number,
+                    functions,
+                    line_numbers,
+                    function,
+                    numbers,
+                    blocks,
+                    stmt,
+                )
             }
         }
     }
@@ -206,14 +216,17 @@ impl Draft {
         self,
         alloc: Global,
         number: u64,
-        line: Line,
+        line: LexedLine,
     ) -> Result<Draft, LineFault>
         ensures { LineGives result (take_line number line self) }
     {
         match line {
-            Line::Skipped => Ok(self),
-            Line::Tokens(tokens) => self.add_line(alloc, number, tokens),
-            Line::Bad => Err(LineFault::Refused(Kind::Syntax)),
+            LexedLine::Skipped => Ok(self),
+            LexedLine::Tokens(tokens) => self.add_line(alloc, number, tokens),
+            LexedLine::Invalid => {
+                drop(self);
+                Err(LineFault::Refused(Kind::Syntax))
+            }
         }
     }
 }

@@ -4,164 +4,170 @@
 //! of parentheses. A tree is built only within the limits.
 
 ghost use Rattle.std.specs.Prelude.{◌≡◌, ◌<◌, ◌∷◌, List, IfOk, length, reverse};
-ghost use Rattle.script_lang.specs.Expressions.{operand, number_at, not_at, key_at, named_at, tight, rank, operator, operator_by, minus_at, open_at, step, finish, ended, closed, reduce, read_from, expr_at};
-ghost use Rattle.script_lang.specs.Stream.{behind, first_of};
-ghost use Rattle.script_lang.specs.Reading.{left_by, Reads, Closes, GoesOn};
+ghost use Rattle.script_lang.specs.Expressions.{shift_operand, shift_number, shift_not, shift_keyword, shift_wrapper, left_precedence, precedence, shift_operator, push_operator, shift_minus, shift_open, shift_token, end_of_expr, expr_before, close_paren, reduce, read_from, expr_at, lookahead_of};
+ghost use Rattle.line_text.specs.Stream.{found_before};
+ghost use Rattle.script_lang.specs.ReadSteps.{with_stack, ReadsOn, Closes, Continues};
 
+use crate::first::{Lookahead, lookahead_token};
 use crate::parts::{
-    Part, Wrapper, negative_part, operand as operand_part, positive_part, rated_part, wrap_part,
+    Part, Wrapper, checked_part, negative_part, operand as operand_part, positive_part, wrap_part,
 };
-use crate::rated::Rated;
-use crate::stack::{Item, Place, is_comparing, may_negate, rank_of, take_right, tight_rank};
-use crate::token::{Key, Mark, Token};
-use crate::tokens::{First, Tokens};
+use crate::stack::{
+    ExprState, StackItem, is_behind_comparison, left_precedence_of, may_negate, precedence_of,
+    reduce_stack,
+};
 use boki_types::{BinOp, Expr};
 use lb_base::Memory;
+use line_text::{Checked, Keyword, Punctuation, Token, Tokens};
 use std::alloc::Global;
 
 /// An operand, where one is due.
-fn operand_here(place: Place, part: Part) -> Option<Place>
-    ensures { (s : _) → left_by s result ≡ operand s place part }
+fn shift_operand_part(place: ExprState, part: Part) -> Option<ExprState>
+    ensures { (s : _) → with_stack s result ≡ shift_operand s place part }
 {
     match place {
-        Place::Due => Some(Place::Read(part)),
-        Place::Signed => None,
-        Place::Opens(_) => None,
-        Place::Read(_) => None,
+        ExprState::NeedsOperand => Some(ExprState::HasOperand(part)),
+        ExprState::NeedsNumber => None,
+        ExprState::NeedsParen(_) => None,
+        ExprState::HasOperand(_) => None,
     }
 }
 
 /// A numeral.
-fn number_here(place: Place, n: Option<u64>) -> Option<Place>
-    ensures { (s : _) → left_by s result ≡ number_at n s place }
+fn number_here(place: ExprState, n: Option<u64>) -> Option<ExprState>
+    ensures { (s : _) → with_stack s result ≡ shift_number n s place }
 {
     match place {
-        Place::Due => Some(Place::Read(positive_part(n))),
-        Place::Signed => match n {
+        ExprState::NeedsOperand => Some(ExprState::HasOperand(positive_part(n))),
+        ExprState::NeedsNumber => match n {
             Some(0) => None,
-            _ => Some(Place::Read(negative_part(n))),
+            _ => Some(ExprState::HasOperand(negative_part(n))),
         },
-        Place::Opens(_) => None,
-        Place::Read(_) => None,
+        ExprState::NeedsParen(_) => None,
+        ExprState::HasOperand(_) => None,
     }
 }
 
 /// `text` or `len`.
-fn wrapper_here(place: Place, wrapper: Wrapper) -> Option<Place>
-    ensures { (s : _) → left_by s result ≡ named_at wrapper s place }
+fn wrapper_here(place: ExprState, wrapper: Wrapper) -> Option<ExprState>
+    ensures { (s : _) → with_stack s result ≡ shift_wrapper wrapper s place }
 {
     match place {
-        Place::Due => Some(Place::Opens(wrapper)),
-        Place::Signed => None,
-        Place::Opens(_) => None,
-        Place::Read(_) => None,
+        ExprState::NeedsOperand => Some(ExprState::NeedsParen(wrapper)),
+        ExprState::NeedsNumber => None,
+        ExprState::NeedsParen(_) => None,
+        ExprState::HasOperand(_) => None,
     }
 }
 
 /// `not`.
-fn not_here(stack: &mut Vec<Item>, place: Place) -> Result<Option<Place>, Memory>
-    ensures { IfOk result (λ r. left_by (reverse stack.new.items) r ≡ not_at (reverse stack.old.items) place) }
+fn not_here(stack: &mut Vec<StackItem>, place: ExprState) -> Result<Option<ExprState>, Memory>
+    ensures { IfOk result (λ r. with_stack (reverse stack.new.items) r ≡ shift_not (reverse stack.old.items) place) }
 {
     match place {
-        Place::Due => {
+        ExprState::NeedsOperand => {
             if may_negate(stack) {
-                stack.push(Item::Not)?;
-                Ok(Some(Place::Due))
+                stack.push(StackItem::Not)?;
+                Ok(Some(ExprState::NeedsOperand))
             } else {
                 Ok(None)
             }
         }
-        Place::Signed => Ok(None),
-        Place::Opens(_) => Ok(None),
-        Place::Read(_) => Ok(None),
+        ExprState::NeedsNumber => Ok(None),
+        ExprState::NeedsParen(_) => Ok(None),
+        ExprState::HasOperand(_) => Ok(None),
     }
 }
 
 /// An opening parenthesis.
-fn open_here(stack: &mut Vec<Item>, place: Place) -> Result<Option<Place>, Memory>
-    ensures { IfOk result (λ r. left_by (reverse stack.new.items) r ≡ open_at (reverse stack.old.items) place) }
+fn open_here(stack: &mut Vec<StackItem>, place: ExprState) -> Result<Option<ExprState>, Memory>
+    ensures { IfOk result (λ r. with_stack (reverse stack.new.items) r ≡ shift_open (reverse stack.old.items) place) }
 {
     match place {
-        Place::Due => {
-            stack.push(Item::Open(Wrapper::Paren))?;
-            Ok(Some(Place::Due))
+        ExprState::NeedsOperand => {
+            stack.push(StackItem::Open(Wrapper::Paren))?;
+            Ok(Some(ExprState::NeedsOperand))
         }
-        Place::Signed => Ok(None),
-        Place::Opens(wrapper) => {
-            stack.push(Item::Open(wrapper))?;
-            Ok(Some(Place::Due))
+        ExprState::NeedsNumber => Ok(None),
+        ExprState::NeedsParen(wrapper) => {
+            stack.push(StackItem::Open(wrapper))?;
+            Ok(Some(ExprState::NeedsOperand))
         }
-        Place::Read(_) => Ok(None),
+        ExprState::HasOperand(_) => Ok(None),
     }
 }
 
 /// An operator behind a part.
 fn operator_behind(
     alloc: Global,
-    stack: &mut Vec<Item>,
+    stack: &mut Vec<StackItem>,
     op: BinOp,
     read: Part,
-) -> Result<Option<Place>, Memory>
-    ensures { IfOk result (λ r. left_by (reverse stack.new.items) r ≡ operator_by op (reduce (tight (rank op)) (reverse stack.old.items) read)) }
+) -> Result<Option<ExprState>, Memory>
+    ensures { IfOk result (λ r. with_stack (reverse stack.new.items) r ≡ push_operator op (reduce (left_precedence (precedence op)) (reverse stack.old.items) read)) }
 {
-    let rank = rank_of(op);
-    let left = take_right(alloc, tight_rank(rank), stack, read)?;
-    if rank == 4 && is_comparing(stack) {
+    let precedence = precedence_of(op);
+    let left = reduce_stack(alloc, left_precedence_of(precedence), stack, read)?;
+    if precedence == 4 && is_behind_comparison(stack) {
         return Ok(None);
     }
-    stack.push(Item::Left(left, op))?;
-    Ok(Some(Place::Due))
+    stack.push(StackItem::Left(left, op))?;
+    Ok(Some(ExprState::NeedsOperand))
 }
 
 /// An operator.
 fn operator_here(
     alloc: Global,
-    stack: &mut Vec<Item>,
-    place: Place,
+    stack: &mut Vec<StackItem>,
+    place: ExprState,
     op: BinOp,
-) -> Result<Option<Place>, Memory>
-    ensures { IfOk result (λ r. left_by (reverse stack.new.items) r ≡ operator op (reverse stack.old.items) place) }
+) -> Result<Option<ExprState>, Memory>
+    ensures { IfOk result (λ r. with_stack (reverse stack.new.items) r ≡ shift_operator op (reverse stack.old.items) place) }
 {
     match place {
-        Place::Due => Ok(None),
-        Place::Signed => Ok(None),
-        Place::Opens(_) => Ok(None),
-        Place::Read(read) => operator_behind(alloc, stack, op, read),
+        ExprState::NeedsOperand => Ok(None),
+        ExprState::NeedsNumber => Ok(None),
+        ExprState::NeedsParen(_) => Ok(None),
+        ExprState::HasOperand(read) => operator_behind(alloc, stack, op, read),
     }
 }
 
 /// A minus, which a digit may follow at once.
 fn minus_here(
     alloc: Global,
-    stack: &mut Vec<Item>,
-    place: Place,
+    stack: &mut Vec<StackItem>,
+    place: ExprState,
     sign: bool,
-) -> Result<Option<Place>, Memory>
-    ensures { IfOk result (λ r. left_by (reverse stack.new.items) r ≡ minus_at sign (reverse stack.old.items) place) }
+) -> Result<Option<ExprState>, Memory>
+    ensures { IfOk result (λ r. with_stack (reverse stack.new.items) r ≡ shift_minus sign (reverse stack.old.items) place) }
 {
     match place {
-        Place::Due => {
+        ExprState::NeedsOperand => {
             if sign {
-                Ok(Some(Place::Signed))
+                Ok(Some(ExprState::NeedsNumber))
             } else {
                 Ok(None)
             }
         }
-        Place::Signed => Ok(None),
-        Place::Opens(_) => Ok(None),
-        Place::Read(read) => operator_behind(alloc, stack, BinOp::Sub, read),
+        ExprState::NeedsNumber => Ok(None),
+        ExprState::NeedsParen(_) => Ok(None),
+        ExprState::HasOperand(read) => operator_behind(alloc, stack, BinOp::Sub, read),
     }
 }
 
 /// A reserved word.
-fn key_here(stack: &mut Vec<Item>, place: Place, key: Key) -> Result<Option<Place>, Memory>
-    ensures { IfOk result (λ r. left_by (reverse stack.new.items) r ≡ key_at key (reverse stack.old.items) place) }
+fn key_here(
+    stack: &mut Vec<StackItem>,
+    place: ExprState,
+    key: Keyword,
+) -> Result<Option<ExprState>, Memory>
+    ensures { IfOk result (λ r. with_stack (reverse stack.new.items) r ≡ shift_keyword key (reverse stack.old.items) place) }
 {
     match key {
-        Key::Nothing => Ok(operand_here(place, operand_part(true, Expr::Nothing))),
-        Key::Not => not_here(stack, place),
-        Key::TextOf => Ok(wrapper_here(place, Wrapper::TextOf)),
-        Key::Len => Ok(wrapper_here(place, Wrapper::Len)),
+        Keyword::Nothing => Ok(shift_operand_part(place, operand_part(true, Expr::Nothing))),
+        Keyword::Not => not_here(stack, place),
+        Keyword::TextOf => Ok(wrapper_here(place, Wrapper::TextOf)),
+        Keyword::Len => Ok(wrapper_here(place, Wrapper::Len)),
         _ => Ok(None),
     }
 }
@@ -169,41 +175,45 @@ fn key_here(stack: &mut Vec<Item>, place: Place, key: Key) -> Result<Option<Plac
 /// What a token makes of what is read; None where it doesn't fit.
 fn token_here(
     alloc: Global,
-    stack: &mut Vec<Item>,
-    place: Place,
+    stack: &mut Vec<StackItem>,
+    place: ExprState,
     token: Token,
-) -> Result<Option<Place>, Memory>
-    ensures { IfOk result (λ r. left_by (reverse stack.new.items) r ≡ step token (reverse stack.old.items) place) }
+) -> Result<Option<ExprState>, Memory>
+    ensures { IfOk result (λ r. with_stack (reverse stack.new.items) r ≡ shift_token token (reverse stack.old.items) place) }
 {
     match token {
-        Token::Num(n) => Ok(number_here(place, n)),
+        Token::Numeral(n) => Ok(number_here(place, n)),
         Token::Dotted(_) => Ok(None),
         Token::Text(text) => {
             let fits = text.len() <= 256;
-            Ok(operand_here(place, operand_part(fits, Expr::Text(text))))
+            Ok(shift_operand_part(place, operand_part(fits, Expr::Text(text))))
         }
         Token::Name(name) => {
             let fits = name.len() <= 32;
-            Ok(operand_here(place, operand_part(fits, Expr::Var(name))))
+            Ok(shift_operand_part(place, operand_part(fits, Expr::Var(name))))
         }
-        Token::Key(key) => key_here(stack, place, key),
+        Token::Keyword(key) => key_here(stack, place, key),
         Token::Op(op) => operator_here(alloc, stack, place, op),
         Token::Minus(sign) => minus_here(alloc, stack, place, sign),
-        Token::Mark(Mark::Open) => open_here(stack, place),
-        Token::Mark(_) => Ok(None),
+        Token::Punctuation(Punctuation::Open) => open_here(stack, place),
+        Token::Punctuation(_) => Ok(None),
     }
 }
 
 /// What is read, where it is whole.
-fn whole_part(alloc: Global, stack: &mut Vec<Item>, place: Place) -> Result<Option<Part>, Memory>
-    ensures { IfOk result (λ r. r ≡ finish (reverse stack.old.items) place) }
+fn whole_part(
+    alloc: Global,
+    stack: &mut Vec<StackItem>,
+    place: ExprState,
+) -> Result<Option<Part>, Memory>
+    ensures { IfOk result (λ r. r ≡ end_of_expr (reverse stack.old.items) place) }
 {
     match place {
-        Place::Due => Ok(None),
-        Place::Signed => Ok(None),
-        Place::Opens(_) => Ok(None),
-        Place::Read(read) => {
-            let read = take_right(alloc, 0, stack, read)?;
+        ExprState::NeedsOperand => Ok(None),
+        ExprState::NeedsNumber => Ok(None),
+        ExprState::NeedsParen(_) => Ok(None),
+        ExprState::HasOperand(read) => {
+            let read = reduce_stack(alloc, 0, stack, read)?;
             if stack.is_empty() {
                 Ok(Some(read))
             } else {
@@ -215,13 +225,13 @@ fn whole_part(alloc: Global, stack: &mut Vec<Item>, place: Place) -> Result<Opti
 
 /// What reading on from a place gives.
 #[derive(Drop)]
-pub enum Step {
+pub enum ReadStep {
     /// This may come next.
-    On(Place),
+    Continue(ExprState),
     /// The expression ends before the first token that is left.
-    Ended(Rated<Expr>),
+    Done(Checked<Expr>),
     /// The first token doesn't fit.
-    Bad,
+    Invalid,
 }
 
 /// What a closing parenthesis closes.
@@ -232,34 +242,46 @@ pub enum Closing {
     /// None is open, and this part is read.
     Outer(Part),
     /// Nothing may be closed.
-    Bad,
+    Invalid,
 }
 
 /// The end of the expression, where it may end.
-fn end_here(alloc: Global, stack: &mut Vec<Item>, place: Place) -> Result<Step, Memory>
-    ensures read { IfOk result (λ r. (ts : List Token) (s : List Item) → Reads ts s r (ended ts (finish (reverse stack.old.items) place))) }
-    ensures ends { IfOk result (λ r. GoesOn r → ⊥) }
+fn end_here(alloc: Global, stack: &mut Vec<StackItem>, place: ExprState) -> Result<ReadStep, Memory>
+    ensures read { IfOk result (λ r. (ts : List Token) (s : List StackItem) → ReadsOn ts s r (expr_before ts (end_of_expr (reverse stack.old.items) place))) }
+    ensures ends { IfOk result (λ r. Continues r → ⊥) }
 {
     match whole_part(alloc, stack, place)? {
-        Some(part) => Ok(Step::Ended(rated_part(part))),
-        None => Ok(Step::Bad),
+        Some(part) => Ok(ReadStep::Done(checked_part(part))),
+        None => Ok(ReadStep::Invalid),
     }
 }
 
 /// What a closing parenthesis closes.
-fn close_part(alloc: Global, stack: &mut Vec<Item>, place: Place) -> Result<Closing, Memory>
-    ensures { IfOk result (λ r. Closes (reverse stack.new.items) r (closed (reverse stack.old.items) place) (finish (reverse stack.old.items) place)) }
+fn close_part(
+    alloc: Global,
+    stack: &mut Vec<StackItem>,
+    place: ExprState,
+) -> Result<Closing, Memory>
+    ensures { IfOk result (λ r. Closes (reverse stack.new.items) r (close_paren (reverse stack.old.items) place) (end_of_expr (reverse stack.old.items) place)) }
 {
     match place {
-        Place::Due => Ok(Closing::Bad),
-        Place::Signed => Ok(Closing::Bad),
-        Place::Opens(_) => Ok(Closing::Bad),
-        Place::Read(read) => {
-            let read = take_right(alloc, 0, stack, read)?;
+        ExprState::NeedsOperand => Ok(Closing::Invalid),
+        ExprState::NeedsNumber => Ok(Closing::Invalid),
+        ExprState::NeedsParen(_) => Ok(Closing::Invalid),
+        ExprState::HasOperand(read) => {
+            let read = reduce_stack(alloc, 0, stack, read)?;
             match stack.pop() {
-                Some(Item::Open(wrapper)) => Ok(Closing::Inner(wrap_part(alloc, wrapper, read)?)),
-                Some(Item::Not) => Ok(Closing::Bad),
-                Some(Item::Left(_, _)) => Ok(Closing::Bad),
+                Some(StackItem::Open(wrapper)) => Ok(Closing::Inner(wrap_part(
+                    alloc, wrapper, read,
+                )?)),
+                Some(StackItem::Not) => {
+                    drop(read);
+                    Ok(Closing::Invalid)
+                }
+                Some(StackItem::Left(left, _)) => {
+                    drop((left, read));
+                    Ok(Closing::Invalid)
+                }
                 None => Ok(Closing::Outer(read)),
             }
         }
@@ -270,20 +292,20 @@ fn close_part(alloc: Global, stack: &mut Vec<Item>, place: Place) -> Result<Clos
 fn close_here(
     alloc: Global,
     tokens: &mut Tokens,
-    stack: &mut Vec<Item>,
-    place: Place,
-) -> Result<Step, Memory>
-    requires { first_of tokens.old ≡ First.Close }
-    ensures read { IfOk result (λ r. Reads tokens.new (reverse stack.new.items) r (read_from tokens.old (reverse stack.old.items) place)) }
-    ensures shorter { IfOk result (λ r. GoesOn r → length tokens.new < length tokens.old) }
+    stack: &mut Vec<StackItem>,
+    place: ExprState,
+) -> Result<ReadStep, Memory>
+    requires { lookahead_of tokens.old ≡ Lookahead.Close }
+    ensures read { IfOk result (λ r. ReadsOn tokens.new (reverse stack.new.items) r (read_from tokens.old (reverse stack.old.items) place)) }
+    ensures shorter { IfOk result (λ r. Continues r → length tokens.new < length tokens.old) }
 {
     match close_part(alloc, stack, place)? {
         Closing::Inner(part) => {
             let _ = tokens.take();
-            Ok(Step::On(Place::Read(part)))
+            Ok(ReadStep::Continue(ExprState::HasOperand(part)))
         }
-        Closing::Outer(part) => Ok(Step::Ended(rated_part(part))),
-        Closing::Bad => Ok(Step::Bad),
+        Closing::Outer(part) => Ok(ReadStep::Done(checked_part(part))),
+        Closing::Invalid => Ok(ReadStep::Invalid),
     }
 }
 
@@ -291,19 +313,19 @@ fn close_here(
 fn go_on_here(
     alloc: Global,
     tokens: &mut Tokens,
-    stack: &mut Vec<Item>,
-    place: Place,
-) -> Result<Step, Memory>
-    requires { first_of tokens.old ≡ First.Other }
-    ensures read { IfOk result (λ r. Reads tokens.new (reverse stack.new.items) r (read_from tokens.old (reverse stack.old.items) place)) }
-    ensures shorter { IfOk result (λ r. GoesOn r → length tokens.new < length tokens.old) }
+    stack: &mut Vec<StackItem>,
+    place: ExprState,
+) -> Result<ReadStep, Memory>
+    requires { lookahead_of tokens.old ≡ Lookahead.Other }
+    ensures read { IfOk result (λ r. ReadsOn tokens.new (reverse stack.new.items) r (read_from tokens.old (reverse stack.old.items) place)) }
+    ensures shorter { IfOk result (λ r. Continues r → length tokens.new < length tokens.old) }
 {
     match tokens.take() {
         Some(token) => match token_here(alloc, stack, place, token)? {
-            Some(place) => Ok(Step::On(place)),
-            None => Ok(Step::Bad),
+            Some(place) => Ok(ReadStep::Continue(place)),
+            None => Ok(ReadStep::Invalid),
         },
-        None => Ok(Step::Bad),
+        None => Ok(ReadStep::Invalid),
     }
 }
 
@@ -311,32 +333,32 @@ fn go_on_here(
 fn advance(
     alloc: Global,
     tokens: &mut Tokens,
-    stack: &mut Vec<Item>,
-    place: Place,
-) -> Result<Step, Memory>
-    ensures read { IfOk result (λ r. Reads tokens.new (reverse stack.new.items) r (read_from tokens.old (reverse stack.old.items) place)) }
-    ensures shorter { IfOk result (λ r. GoesOn r → length tokens.new < length tokens.old) }
+    stack: &mut Vec<StackItem>,
+    place: ExprState,
+) -> Result<ReadStep, Memory>
+    ensures read { IfOk result (λ r. ReadsOn tokens.new (reverse stack.new.items) r (read_from tokens.old (reverse stack.old.items) place)) }
+    ensures shorter { IfOk result (λ r. Continues r → length tokens.new < length tokens.old) }
 {
-    match tokens.first() {
-        First::Close => close_here(alloc, tokens, stack, place),
-        First::Stop => end_here(alloc, stack, place),
-        First::Other => go_on_here(alloc, tokens, stack, place),
+    match lookahead_token(tokens) {
+        Lookahead::Close => close_here(alloc, tokens, stack, place),
+        Lookahead::Stop => end_here(alloc, stack, place),
+        Lookahead::Other => go_on_here(alloc, tokens, stack, place),
     }
 }
 
 /// The longest expression that begins the tokens, which are then those behind it; None where a token doesn't fit before it ends.
 ///
 /// `Memory` comes where there is no room for the expression.
-pub(crate) fn read_expr(alloc: Global, tokens: &mut Tokens) -> Result<Option<Rated<Expr>>, Memory>
-    ensures { IfOk result (λ found. behind tokens.new found ≡ expr_at tokens.old) }
+pub(crate) fn read_expr(alloc: Global, tokens: &mut Tokens) -> Result<Option<Checked<Expr>>, Memory>
+    ensures { IfOk result (λ found. found_before tokens.new found ≡ expr_at tokens.old) }
 {
     let mut stack = Vec::new(alloc);
-    let mut place = Place::Due;
+    let mut place = ExprState::NeedsOperand;
     'tokens: loop {
         match advance(alloc, tokens, &mut stack, place)? {
-            Step::On(next) => place = next,
-            Step::Ended(expr) => return Ok(Some(expr)),
-            Step::Bad => return Ok(None),
+            ReadStep::Continue(next) => place = next,
+            ReadStep::Done(expr) => return Ok(Some(expr)),
+            ReadStep::Invalid => return Ok(None),
         }
     }
 }

@@ -2,10 +2,10 @@
 
 ghost use Rattle.std.specs.Prelude.{◌≡◌, ◌∷◌, ◌++◌, ◌<◌, ◌≤◌, ◌^◌, ◌&&◌, IfOk, OnOk, length, take, get_or, bytes_eq, []};
 ghost use Rattle.std.specs.List.{list_all, list_any};
-ghost use Rattle.boki_model.specs.Plans.{sets, distinct};
+ghost use Rattle.boki_model.specs.Plans.{variables_set, distinct};
 ghost use Rattle.boki_model.specs.Maps.{has};
-ghost use Rattle.boki_model.specs.Script.{firsts};
-ghost use Rattle.script_lang.specs.Names.{is_among, names_in, AreSameNames, vars_known, reads_known, call_fault as fault_of_call, spawn_fault, line_fault, head_fault, lines_fault, function_fault, name_fault as fault_of};
+ghost use Rattle.boki_model.specs.Script.{pair_names};
+ghost use Rattle.script_lang.specs.Names.{is_among, names_in, AreSameNames, vars_known, reads_known, call_fault as fault_of_call, spawn_fault, line_fault, function_head_fault, lines_fault, function_fault, name_fault as fault_of};
 
 use boki_types::{Expr, Function, Kind, Stmt};
 use lb_base::{List, Memory, Words};
@@ -125,7 +125,7 @@ fn add_params<'a>(known: &mut HashSet<&'a str>, params: &'a [Words]) -> Result<(
 
 /// Adds the variables that pairs set.
 fn add_firsts<'a>(known: &mut HashSet<&'a str>, pairs: &'a [(Words, Expr)]) -> Result<(), Memory>
-    ensures { OnOk result (AreSameNames (names_in known.new) (names_in known.old ++ firsts pairs.now)) }
+    ensures { OnOk result (AreSameNames (names_in known.new) (names_in known.old ++ pair_names pairs.now)) }
 {
     'pairs: for pair in pairs {
         add_name(known, pair.0.as_str())?;
@@ -135,7 +135,7 @@ fn add_firsts<'a>(known: &mut HashSet<&'a str>, pairs: &'a [(Words, Expr)]) -> R
 
 /// Adds the variables that a statement sets.
 fn add_sets<'a>(known: &mut HashSet<&'a str>, stmt: &'a Stmt) -> Result<(), Memory>
-    ensures { OnOk result (AreSameNames (names_in known.new) (names_in known.old ++ sets stmt.now)) }
+    ensures { OnOk result (AreSameNames (names_in known.new) (names_in known.old ++ variables_set stmt.now)) }
 {
     match stmt {
         Stmt::Let(name, _) => add_name(known, name.as_str()),
@@ -151,23 +151,23 @@ fn add_sets<'a>(known: &mut HashSet<&'a str>, stmt: &'a Stmt) -> Result<(), Memo
 }
 
 /// The number at a place, or 0 where there is none.
-fn mark_at(marks: &[u64], at: usize) -> u64
-    ensures { result ≡ get_or marks.now at 0 }
+fn line_number_at(line_numbers: &[u64], at: usize) -> u64
+    ensures { result ≡ get_or line_numbers.now at 0 }
 {
-    match marks.get(at) {
+    match line_numbers.get(at) {
         Some(number) => *number,
         None => 0,
     }
 }
 
 /// The first fault among the lines of a function, with the line's number.
-fn first_in_lines(
+fn first_line_fault(
     alloc: Global,
     functions: &[Function],
     function: &Function,
-    marks: &[u64],
+    line_numbers: &[u64],
 ) -> Result<Option<(u64, Kind)>, Memory>
-    ensures { IfOk result (λ fault. fault ≡ lines_fault functions.now function.now.params function.now.lines marks.now 1) }
+    ensures { IfOk result (λ fault. fault ≡ lines_fault functions.now function.now.params function.now.lines line_numbers.now 1) }
 {
     let mut known = HashSet::new(alloc);
     add_params(&mut known, function.params.as_slice())?;
@@ -175,7 +175,7 @@ fn first_in_lines(
     'lines: for i in 0..lines.len() {
         let line = &lines[i];
         if let Some(kind) = stmt_fault(functions, &known, line) {
-            return Ok(Some((mark_at(marks, i + 1), kind)));
+            return Ok(Some((line_number_at(line_numbers, i + 1), kind)));
         }
         add_sets(&mut known, line)?;
     }
@@ -183,7 +183,7 @@ fn first_in_lines(
 }
 
 /// Whether a name is among these.
-fn is_in(names: &[Words], name: &str) -> bool
+fn is_name_among(names: &[Words], name: &str) -> bool
     ensures { result ≡ is_among names.now name.now }
 {
     names.iter().any(|other| name == other.as_str())
@@ -195,24 +195,24 @@ fn are_distinct(names: &[Words]) -> bool
 {
     'names: for i in 0..names.len() {
         let (_, rest) = names.split_at(i + 1);
-        if is_in(rest, names[i].as_str()) {
+        if is_name_among(rest, names[i].as_str()) {
             return false;
         }
     }
     true
 }
 
-fn marks_at(marks: &[List<u64>], at: usize) -> &[u64]
-    ensures { result.now ≡ get_or marks.now at [] }
+fn line_numbers_at(line_numbers: &[List<u64>], at: usize) -> &[u64]
+    ensures { result.now ≡ get_or line_numbers.now at [] }
 {
-    match marks.get(at) {
+    match line_numbers.get(at) {
         Some(numbers) => numbers.as_slice(),
         None => &[],
     }
 }
 
 /// Whether a function among these has the name.
-fn is_named(functions: &[Function], name: &str) -> bool
+fn is_function_among(functions: &[Function], name: &str) -> bool
     ensures { result ≡ list_any (λ g. bytes_eq name.now g.name) functions.now }
 {
     functions
@@ -222,9 +222,9 @@ fn is_named(functions: &[Function], name: &str) -> bool
 
 /// What is wrong with the head of a function, behind other functions.
 fn head_fault_of(before: &[Function], function: &Function) -> Option<Kind>
-    ensures { result ≡ head_fault before.now function.now }
+    ensures { result ≡ function_head_fault before.now function.now }
 {
-    if is_named(before, function.name.as_str()) {
+    if is_function_among(before, function.name.as_str()) {
         return Some(Kind::Name);
     }
     if are_distinct(function.params.as_slice()) {
@@ -235,37 +235,43 @@ fn head_fault_of(before: &[Function], function: &Function) -> Option<Kind>
 }
 
 /// The first fault in a function, behind other functions, with the line's number.
-fn first_in_function(
+fn first_function_fault(
     alloc: Global,
     functions: &[Function],
     before: &[Function],
     function: &Function,
-    marks: &[u64],
+    line_numbers: &[u64],
 ) -> Result<Option<(u64, Kind)>, Memory>
-    ensures { IfOk result (λ fault. fault ≡ function_fault functions.now before.now function.now marks.now) }
+    ensures { IfOk result (λ fault. fault ≡ function_fault functions.now before.now function.now line_numbers.now) }
 {
     if let Some(kind) = head_fault_of(before, function) {
-        return Ok(Some((mark_at(marks, 0), kind)));
+        return Ok(Some((line_number_at(line_numbers, 0), kind)));
     }
-    first_in_lines(alloc, functions, function, marks)
+    first_line_fault(alloc, functions, function, line_numbers)
 }
 
 /// The first line in functions that uses a name or a number of arguments that is wrong, and which of the two it is.
 ///
-/// `marks` has, for each function, the number of its head and then those of its lines. `Name` comes where a function has the name
+/// `line_numbers` has, for each function, the number of its head and then those of its lines. `Name` comes where a function has the name
 /// of one before it, where a parameter stands twice, where a variable is neither a parameter nor set by a line above, and where
 /// no function has the name that a line calls. `Arity` comes where the first function of that name takes another number of
 /// arguments. Within a line a name comes first. `Memory` comes where there is no room for the names.
 pub fn first_name_fault(
     alloc: Global,
     functions: &[Function],
-    marks: &[List<u64>],
+    line_numbers: &[List<u64>],
 ) -> Result<Option<(u64, Kind)>, Memory>
-    ensures { IfOk result (λ fault. fault ≡ fault_of functions.now marks.now) }
+    ensures { IfOk result (λ fault. fault ≡ fault_of functions.now line_numbers.now) }
 {
     'functions: for i in 0..functions.len() {
         let (before, _) = functions.split_at(i);
-        let fault = first_in_function(alloc, functions, before, &functions[i], marks_at(marks, i))?;
+        let fault = first_function_fault(
+            alloc,
+            functions,
+            before,
+            &functions[i],
+            line_numbers_at(line_numbers, i),
+        )?;
         if fault.is_some() {
             return Ok(fault);
         }

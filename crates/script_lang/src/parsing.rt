@@ -1,54 +1,39 @@
 //! The text of functions.
 
-ghost use Rattle.std.specs.Prelude.{◌≡◌, ◌≤◌, ◌<◌, IfOk, IfSome, IsTrue, length, option_map};
-ghost use Rattle.std.specs.Str.{IsUtf8};
+ghost use Rattle.std.specs.Prelude.{◌≡◌, ◌≤◌, IfOk, IsTrue};
 ghost use Rattle.boki_model.specs.Plans.{is_program};
-ghost use Rattle.script_lang.specs.Lines.{first_line, line_of};
+ghost use Rattle.line_text.specs.Lines.{lexed_line};
 ghost use Rattle.script_lang.specs.Functions.{take_line};
-ghost use Rattle.script_lang.specs.Texts.{Gives, AddGives, program_of, ended};
+ghost use Rattle.line_text.specs.Faults.{Gives, AddGives};
+ghost use Rattle.script_lang.specs.Texts.{program_of, program_at_end};
 
 use crate::draft::{Draft, Stage};
-use crate::fault::{LineFault, ScriptFault};
-use crate::lines::read_line;
 use crate::names::first_name_fault;
-use crate::spans::behind_first;
 use boki_types::{Kind, Program};
+use line_text::{TextFault as ScriptFault, fault_on_line, read_line, split_text};
 use std::alloc::Global;
-
-/// The first line of a text, without its line feed, and what follows that.
-fn split_text(text: &str) -> Option<(&str, &str)>
-    ensures line { option_map (λ p. (p.0.now, p.1.now)) result ≡ first_line text.now }
-    ensures shorter { IfSome result (λ p. length p.1.now < length text.now) }
-    ensures text { IfSome result (λ p. IsUtf8 p.0.now × IsUtf8 p.1.now) }
-{
-    for (i, c) in text.as_bytes().iter().enumerate() {
-        if *c == b'\n' {
-            let (line, rest) = text.split_at(i);
-            return Some((line, behind_first(rest)));
-        }
-    }
-    None
-}
 
 /// The draft with a line of a text.
 fn add_text(alloc: Global, draft: Draft, number: u64, line: &str) -> Result<Draft, ScriptFault>
-    ensures { AddGives result number (take_line number (line_of line.now) draft) }
+    ensures { AddGives result number (take_line number (lexed_line line.now) draft) }
 {
-    let line = read_line(alloc, line)?;
+    let Ok(line) = read_line(alloc, line) else {
+        drop(draft);
+        return Err(ScriptFault::Memory);
+    };
     match draft.take_line(alloc, number, line) {
         Ok(draft) => Ok(draft),
-        Err(LineFault::Refused(kind)) => Err(ScriptFault::Refused { line: number, kind }),
-        Err(LineFault::Memory) => Err(ScriptFault::Memory),
+        Err(fault) => Err(fault_on_line(number, fault)),
     }
 }
 
 /// The program of functions that were read to the end of their text, behind the line before this number.
 fn finish_draft(alloc: Global, number: u64, draft: Draft) -> Result<Program, ScriptFault>
-    ensures { Gives result (ended number draft.functions draft.marks draft.stage) }
+    ensures { Gives result (program_at_end number draft.functions draft.line_numbers draft.stage) }
 {
     let Draft {
         functions,
-        marks,
+        line_numbers,
         stage,
     } = draft;
     match stage {
@@ -56,7 +41,11 @@ fn finish_draft(alloc: Global, number: u64, draft: Draft) -> Result<Program, Scr
             line: number,
             kind: Kind::End,
         }),
-        Stage::Between => match first_name_fault(alloc, functions.as_slice(), marks.as_slice())? {
+        Stage::Between => match first_name_fault(
+            alloc,
+            functions.as_slice(),
+            line_numbers.as_slice(),
+        )? {
             Some((line, kind)) => Err(ScriptFault::Refused { line, kind }),
             None => Ok(Program { functions }),
         },
@@ -71,7 +60,7 @@ fn read_functions(alloc: Global, text: &str, first: u64) -> Result<Program, Scri
     let mut draft = Draft::new(alloc);
     let mut rest = text;
     let mut number = first;
-    'lines: while let Some((line, after)) = split_text(rest) {
+    'lines: while let Some((line, after)) = split_text(rest, b'\n') {
         draft = add_text(alloc, draft, number, line)?;
         number += 1;
         rest = after;

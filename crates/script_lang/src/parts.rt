@@ -1,11 +1,11 @@
 //! Parts of expressions, within the limits.
 
 ghost use Rattle.std.specs.Prelude.{◌≡◌, IfOk};
-ghost use Rattle.script_lang.specs.Expressions.{leaf, two, inside, wrap, negated, positive, negative, rated};
+ghost use Rattle.script_lang.specs.Expressions.{leaf, binary_part, nested_part, wrap, not_expr, positive, negative, checked_expr};
 
-use crate::rated::Rated;
 use boki_types::{BinOp, Expr};
 use lb_base::Memory;
+use line_text::Checked;
 use sqlite_items::Boxed;
 use std::alloc::Global;
 
@@ -20,9 +20,9 @@ pub enum Part {
     /// An expression, its number of operands, and its nesting.
     Tree(Expr, u8, u8),
     /// Something in it is out of range.
-    Wide,
+    OutOfRange,
     /// It is past the limits, and all in it is in range.
-    Deep,
+    TooDeep,
 }
 
 /// What parentheses make of a part.
@@ -40,7 +40,7 @@ pub(crate) fn operand(fits: bool, x: Expr) -> Part
     if fits {
         Part::Tree(x, 1, 0)
     } else {
-        Part::Wide
+        Part::OutOfRange
     }
 }
 
@@ -49,12 +49,12 @@ pub(crate) fn positive_part(n: Option<u64>) -> Part
     ensures { result ≡ positive n }
 {
     match n {
-        None => Part::Wide,
+        None => Part::OutOfRange,
         Some(n) => {
             if n < 1 << 63 {
                 Part::Tree(Expr::Int(n as i64), 1, 0)
             } else {
-                Part::Wide
+                Part::OutOfRange
             }
         }
     }
@@ -65,14 +65,14 @@ pub(crate) fn negative_part(n: Option<u64>) -> Part
     ensures { result ≡ negative n }
 {
     match n {
-        None => Part::Wide,
+        None => Part::OutOfRange,
         Some(n) => {
             if n < 1 << 63 {
                 Part::Tree(Expr::Int(-(n as i64)), 1, 0)
             } else if n == 1 << 63 {
                 Part::Tree(Expr::Int(i64::MIN), 1, 0)
             } else {
-                Part::Wide
+                Part::OutOfRange
             }
         }
     }
@@ -92,32 +92,32 @@ fn join_trees(
     left: (Expr, u8, u8),
     right: (Expr, u8, u8),
 ) -> Result<Part, Memory>
-    ensures { IfOk result (λ x. x ≡ two op (Part.Tree left.0 left.1 left.2) (Part.Tree right.0 right.1 right.2)) }
+    ensures { IfOk result (λ x. x ≡ binary_part op (Part.Tree left.0 left.1 left.2) (Part.Tree right.0 right.1 right.2)) }
 {
     let operands = left.1 as u16 + right.1 as u16;
     if operands <= MOST_OPERANDS {
         let tree = two_trees(alloc, op, left.0, right.0)?;
         Ok(Part::Tree(tree, operands as u8, left.2.max(right.2)))
     } else {
-        Ok(Part::Deep)
+        Ok(Part::TooDeep)
     }
 }
 
 /// An operator between two parts.
 pub(crate) fn join_parts(alloc: Global, op: BinOp, left: Part, right: Part) -> Result<Part, Memory>
-    ensures { IfOk result (λ x. x ≡ two op left right) }
+    ensures { IfOk result (λ x. x ≡ binary_part op left right) }
 {
     match left {
         Part::Tree(x, n, d) => match right {
             Part::Tree(y, m, e) => join_trees(alloc, op, (x, n, d), (y, m, e)),
-            Part::Wide => Ok(Part::Wide),
-            Part::Deep => Ok(Part::Deep),
+            Part::OutOfRange => Ok(Part::OutOfRange),
+            Part::TooDeep => Ok(Part::TooDeep),
         },
-        Part::Wide => Ok(Part::Wide),
-        Part::Deep => match right {
-            Part::Tree(_, _, _) => Ok(Part::Deep),
-            Part::Wide => Ok(Part::Wide),
-            Part::Deep => Ok(Part::Deep),
+        Part::OutOfRange => Ok(Part::OutOfRange),
+        Part::TooDeep => match right {
+            Part::Tree(_, _, _) => Ok(Part::TooDeep),
+            Part::OutOfRange => Ok(Part::OutOfRange),
+            Part::TooDeep => Ok(Part::TooDeep),
         },
     }
 }
@@ -134,45 +134,45 @@ fn wrap_tree(alloc: Global, wrapper: Wrapper, x: Expr) -> Result<Expr, Memory>
 
 /// A part in parentheses.
 pub(crate) fn wrap_part(alloc: Global, wrapper: Wrapper, part: Part) -> Result<Part, Memory>
-    ensures { IfOk result (λ x. x ≡ inside (wrap wrapper) part) }
+    ensures { IfOk result (λ x. x ≡ nested_part (wrap wrapper) part) }
 {
     match part {
         Part::Tree(x, n, d) => {
             if d < MOST_NESTED {
                 Ok(Part::Tree(wrap_tree(alloc, wrapper, x)?, n, d + 1))
             } else {
-                Ok(Part::Deep)
+                Ok(Part::TooDeep)
             }
         }
-        Part::Wide => Ok(Part::Wide),
-        Part::Deep => Ok(Part::Deep),
+        Part::OutOfRange => Ok(Part::OutOfRange),
+        Part::TooDeep => Ok(Part::TooDeep),
     }
 }
 
 /// `not` before a part.
 pub(crate) fn negate_part(alloc: Global, part: Part) -> Result<Part, Memory>
-    ensures { IfOk result (λ x. x ≡ inside negated part) }
+    ensures { IfOk result (λ x. x ≡ nested_part not_expr part) }
 {
     match part {
         Part::Tree(x, n, d) => {
             if d < MOST_NESTED {
                 Ok(Part::Tree(Expr::Not(Boxed::new(alloc, x)?), n, d + 1))
             } else {
-                Ok(Part::Deep)
+                Ok(Part::TooDeep)
             }
         }
-        Part::Wide => Ok(Part::Wide),
-        Part::Deep => Ok(Part::Deep),
+        Part::OutOfRange => Ok(Part::OutOfRange),
+        Part::TooDeep => Ok(Part::TooDeep),
     }
 }
 
 /// A part as an expression.
-pub(crate) fn rated_part(part: Part) -> Rated<Expr>
-    ensures { result ≡ rated part }
+pub(crate) fn checked_part(part: Part) -> Checked<Expr>
+    ensures { result ≡ checked_expr part }
 {
     match part {
-        Part::Tree(x, _, _) => Rated::Fine(x),
-        Part::Wide => Rated::Wide,
-        Part::Deep => Rated::Deep,
+        Part::Tree(x, _, _) => Checked::Valid(x),
+        Part::OutOfRange => Checked::OutOfRange,
+        Part::TooDeep => Checked::TooDeep,
     }
 }

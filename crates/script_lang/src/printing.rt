@@ -2,10 +2,10 @@
 
 ghost use Rattle.std.specs.Prelude.{◌≡◌, ◌++◌, ◌-◌, ◌<◌, ◌^◌, nat_lt, codes, IfOk, OnOk};
 ghost use Rattle.std.specs.String.{string_bytes};
-ghost use Rattle.script_lang.specs.Expressions.{rank as rank_is, tight};
-ghost use Rattle.script_lang.specs.Printed.{◌&◌, op_text, wrapped, expr_text, whole_text, named_text, pair_text, name_text, listed, stmt_text, commit_text, comma_before, line_depth, depth_behind, indent, line_text, lines_text, function_text};
+ghost use Rattle.script_lang.specs.Expressions.{precedence as precedence_is, left_precedence};
+ghost use Rattle.script_lang.specs.Printed.{◌&◌, op_text, paren_text, expr_text, top_expr_text, assignment_text, write_pair_text, name_text, comma_joined, stmt_text, commit_text, comma_before, line_depth, next_depth, indent, stmt_line_text, stmt_lines_text, function_text};
 
-use crate::stack::{rank_of, tight_rank};
+use crate::stack::{left_precedence_of, precedence_of};
 use boki_types::{BinOp, Expr, Function, Stmt};
 use lb_base::{Memory, Words, print_quoted};
 use std::alloc::Global;
@@ -32,8 +32,8 @@ fn op_str(op: BinOp) -> &'static str
 }
 
 /// A text in parentheses, where it needs them.
-fn wrap_text(alloc: Global, needs: bool, text: String) -> Result<String, Memory>
-    ensures { IfOk result (λ s. string_bytes s ≡ wrapped needs (string_bytes text)) }
+fn paren_if(alloc: Global, needs: bool, text: String) -> Result<String, Memory>
+    ensures { IfOk result (λ s. string_bytes s ≡ paren_text needs (string_bytes text)) }
 {
     if needs {
         Ok(format!(in alloc; "({text})")?)
@@ -50,11 +50,11 @@ fn two_text(
     left: String,
     right: String,
 ) -> Result<String, Memory>
-    ensures { IfOk result (λ s. string_bytes s ≡ wrapped (nat_lt (rank_is op) outer) (string_bytes left & codes " " & op_text op & codes " " & string_bytes right)) }
+    ensures { IfOk result (λ s. string_bytes s ≡ paren_text (nat_lt (precedence_is op) outer) (string_bytes left & codes " " & op_text op & codes " " & string_bytes right)) }
 {
     let sign = op_str(op);
     let text = format!(in alloc; "{left} {sign} {right}")?;
-    wrap_text(alloc, rank_of(op) < outer, text)
+    paren_if(alloc, precedence_of(op) < outer, text)
 }
 
 /// An expression, as an operand of what binds as `outer`. It calls itself as deep as the expression is.
@@ -68,12 +68,12 @@ fn expr_string(alloc: Global, outer: u8, x: &Expr) -> Result<String, Memory>
         Expr::Var(name) => Ok(String::from_str(alloc, name.as_str())?),
         Expr::Not(x) => {
             let x = expr_string(alloc, 3, x.get())?;
-            wrap_text(alloc, 3 < outer, format!(in alloc; "not {x}")?)
+            paren_if(alloc, 3 < outer, format!(in alloc; "not {x}")?)
         }
         Expr::Two(op, x, y) => {
-            let rank = rank_of(*op);
-            let left = expr_string(alloc, tight_rank(rank), x.get())?;
-            let right = expr_string(alloc, rank + 1, y.get())?;
+            let precedence = precedence_of(*op);
+            let left = expr_string(alloc, left_precedence_of(precedence), x.get())?;
+            let right = expr_string(alloc, precedence + 1, y.get())?;
             two_text(alloc, outer, *op, left, right)
         }
         Expr::TextOf(x) => {
@@ -88,8 +88,8 @@ fn expr_string(alloc: Global, outer: u8, x: &Expr) -> Result<String, Memory>
 }
 
 /// An expression alone.
-fn whole_string(alloc: Global, x: &Expr) -> Result<String, Memory>
-    ensures { IfOk result (λ s. string_bytes s ≡ whole_text x.now) }
+fn top_expr_string(alloc: Global, x: &Expr) -> Result<String, Memory>
+    ensures { IfOk result (λ s. string_bytes s ≡ top_expr_text x.now) }
 {
     expr_string(alloc, 0, x)
 }
@@ -114,35 +114,35 @@ impl Piece for Words {
 }
 
 impl Piece for Expr {
-    ghost prints = { whole_text };
+    ghost prints = { top_expr_text };
 
     fn text(&self, alloc: Global) -> Result<String, Memory> {
-        whole_string(alloc, self)
+        top_expr_string(alloc, self)
     }
 }
 
 impl Piece for (Words, Expr) {
-    ghost prints = { named_text };
+    ghost prints = { assignment_text };
 
     fn text(&self, alloc: Global) -> Result<String, Memory> {
         let name = self.0.as_str();
-        let x = whole_string(alloc, &self.1)?;
+        let x = top_expr_string(alloc, &self.1)?;
         Ok(format!(in alloc; "{name} = {x}")?)
     }
 }
 
 impl Piece for (Expr, Expr) {
-    ghost prints = { pair_text };
+    ghost prints = { write_pair_text };
 
     fn text(&self, alloc: Global) -> Result<String, Memory> {
-        let x = whole_string(alloc, &self.0)?;
-        let y = whole_string(alloc, &self.1)?;
+        let x = top_expr_string(alloc, &self.0)?;
+        let y = top_expr_string(alloc, &self.1)?;
         Ok(format!(in alloc; "{x} = {y}")?)
     }
 }
 
 /// Adds a text, with a comma before it where it isn't the first.
-fn push_listed(out: &mut String, first: bool, text: &str) -> Result<(), Memory>
+fn push_with_comma(out: &mut String, first: bool, text: &str) -> Result<(), Memory>
     ensures { OnOk result (string_bytes out.new ≡ string_bytes out.old ++ comma_before first text.now) }
 {
     if first {
@@ -155,14 +155,14 @@ fn push_listed(out: &mut String, first: bool, text: &str) -> Result<(), Memory>
 }
 
 /// Texts with commas between them.
-fn listed_string<T: Piece>(alloc: Global, items: &[T]) -> Result<String, Memory>
-    ensures { IfOk result (λ s. string_bytes s ≡ listed T.Piece.prints items.now) }
+fn comma_joined_string<T: Piece>(alloc: Global, items: &[T]) -> Result<String, Memory>
+    ensures { IfOk result (λ s. string_bytes s ≡ comma_joined T.Piece.prints items.now) }
 {
     let mut out = String::new(alloc);
     let mut first = true;
     'items: for item in items {
         let text = item.text(alloc)?;
-        push_listed(&mut out, first, text.as_str())?;
+        push_with_comma(&mut out, first, text.as_str())?;
         first = false;
     }
     Ok(out)
@@ -170,35 +170,35 @@ fn listed_string<T: Piece>(alloc: Global, items: &[T]) -> Result<String, Memory>
 
 /// `let V = WORD E`, where the word has a space behind it or is none.
 fn set_string(alloc: Global, name: &Words, word: &str, x: &Expr) -> Result<String, Memory>
-    ensures { IfOk result (λ s. string_bytes s ≡ (codes "let " & name.now & codes " = " & word.now & whole_text x.now)) }
+    ensures { IfOk result (λ s. string_bytes s ≡ (codes "let " & name.now & codes " = " & word.now & top_expr_text x.now)) }
 {
     let name = name.as_str();
-    let x = whole_string(alloc, x)?;
+    let x = top_expr_string(alloc, x)?;
     Ok(format!(in alloc; "let {name} = {word}{x}")?)
 }
 
 /// `WORD E, E`, where the word has a space behind it.
 fn pair_string(alloc: Global, word: &str, x: &Expr, y: &Expr) -> Result<String, Memory>
-    ensures { IfOk result (λ s. string_bytes s ≡ (word.now & whole_text x.now & codes ", " & whole_text y.now)) }
+    ensures { IfOk result (λ s. string_bytes s ≡ (word.now & top_expr_text x.now & codes ", " & top_expr_text y.now)) }
 {
-    let x = whole_string(alloc, x)?;
-    let y = whole_string(alloc, y)?;
+    let x = top_expr_string(alloc, x)?;
+    let y = top_expr_string(alloc, y)?;
     Ok(format!(in alloc; "{word}{x}, {y}")?)
 }
 
 /// `WORD E`, where the word has a space behind it.
 fn one_string(alloc: Global, word: &str, x: &Expr) -> Result<String, Memory>
-    ensures { IfOk result (λ s. string_bytes s ≡ (word.now & whole_text x.now)) }
+    ensures { IfOk result (λ s. string_bytes s ≡ (word.now & top_expr_text x.now)) }
 {
-    let x = whole_string(alloc, x)?;
+    let x = top_expr_string(alloc, x)?;
     Ok(format!(in alloc; "{word}{x}")?)
 }
 
 /// `WORD V = E, V = E`, where the word has a space behind it.
 fn group_string(alloc: Global, word: &str, pairs: &[(Words, Expr)]) -> Result<String, Memory>
-    ensures { IfOk result (λ s. string_bytes s ≡ (word.now & listed named_text pairs.now)) }
+    ensures { IfOk result (λ s. string_bytes s ≡ (word.now & comma_joined assignment_text pairs.now)) }
 {
-    let list = listed_string(alloc, pairs)?;
+    let list = comma_joined_string(alloc, pairs)?;
     Ok(format!(in alloc; "{word}{list}")?)
 }
 
@@ -208,11 +208,11 @@ fn spawn_string(
     function: &Words,
     args: &[Expr],
 ) -> Result<String, Memory>
-    ensures { IfOk result (λ s. string_bytes s ≡ (codes "let " & name.now & codes " = spawn " & function.now & codes "(" & listed whole_text args.now & codes ")")) }
+    ensures { IfOk result (λ s. string_bytes s ≡ (codes "let " & name.now & codes " = spawn " & function.now & codes "(" & comma_joined top_expr_text args.now & codes ")")) }
 {
     let name = name.as_str();
     let function = function.as_str();
-    let args = listed_string(alloc, args)?;
+    let args = comma_joined_string(alloc, args)?;
     Ok(format!(in alloc; "let {name} = spawn {function}({args})")?)
 }
 
@@ -223,7 +223,7 @@ fn commit_string(alloc: Global, name: &Words, writes: &[(Expr, Expr)]) -> Result
     match writes {
         [] => Ok(format!(in alloc; "let {name} = commit")?),
         [_, ..] => {
-            let list = listed_string(alloc, writes)?;
+            let list = comma_joined_string(alloc, writes)?;
             Ok(format!(in alloc; "let {name} = commit {list}")?)
         }
     }
@@ -264,7 +264,7 @@ fn indent_string(alloc: Global, n: usize) -> Result<String, Memory>
 }
 
 /// How far in a line stands where so many blocks are open before it.
-fn depth_at(n: usize, stmt: &Stmt) -> usize
+fn depth_of_line(n: usize, stmt: &Stmt) -> usize
     ensures { result ≡ line_depth n stmt.now }
 {
     match stmt {
@@ -277,7 +277,7 @@ fn depth_at(n: usize, stmt: &Stmt) -> usize
 /// How many blocks are open behind a line.
 fn depth_after(n: usize, stmt: &Stmt) -> usize
     requires { n < 2 ^ 64 - 1 }
-    ensures { result ≡ depth_behind n stmt.now }
+    ensures { result ≡ next_depth n stmt.now }
 {
     match stmt {
         Stmt::If(_) => n + 1,
@@ -289,16 +289,16 @@ fn depth_after(n: usize, stmt: &Stmt) -> usize
 
 /// A line.
 fn line_string(alloc: Global, n: usize, stmt: &Stmt) -> Result<String, Memory>
-    ensures { IfOk result (λ s. string_bytes s ≡ line_text n stmt.now) }
+    ensures { IfOk result (λ s. string_bytes s ≡ stmt_line_text n stmt.now) }
 {
-    let indent = indent_string(alloc, depth_at(n, stmt))?;
+    let indent = indent_string(alloc, depth_of_line(n, stmt))?;
     let text = stmt_string(alloc, stmt)?;
     Ok(format!(in alloc; "{indent}{text}\n")?)
 }
 
 /// The lines of a function.
 fn lines_string(alloc: Global, lines: &[Stmt]) -> Result<String, Memory>
-    ensures { IfOk result (λ s. string_bytes s ≡ lines_text 1 lines.now) }
+    ensures { IfOk result (λ s. string_bytes s ≡ stmt_lines_text 1 lines.now) }
 {
     let mut out = String::new(alloc);
     let mut depth = 1usize;
@@ -318,7 +318,7 @@ pub fn print_function(alloc: Global, function: &Function) -> Result<Words, Memor
     ensures { IfOk result (λ text. text ≡ function_text function.now) }
 {
     let name = function.name.as_str();
-    let params = listed_string(alloc, function.params.as_slice())?;
+    let params = comma_joined_string(alloc, function.params.as_slice())?;
     let lines = lines_string(alloc, function.lines.as_slice())?;
     let text = format!(in alloc; "function {name}({params})\n{lines}end\n")?;
     Ok(Words::from_string(text))

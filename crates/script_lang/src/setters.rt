@@ -3,8 +3,7 @@
 ghost use Rattle.std.specs.Prelude.{◌≡◌};
 ghost use Rattle.script_lang.specs.Statements.{setter_of, setter_at};
 
-use crate::token::Key;
-use crate::tokens::Tokens;
+use line_text::{Keyword, Tokens};
 
 /// How a variable is set.
 #[derive(Clone, Copy, Debug, PartialEq, Eq)]
@@ -18,15 +17,15 @@ pub enum Setter {
     Commit,
 }
 
-fn setter_of_key(key: Option<Key>) -> Setter
+fn setter_of_key(key: Option<Keyword>) -> Setter
     ensures { result ≡ setter_of key }
 {
     match key {
-        Some(Key::Read) => Setter::Read,
-        Some(Key::Spawn) => Setter::Spawn,
-        Some(Key::Join) => Setter::Join,
-        Some(Key::Pop) => Setter::Pop,
-        Some(Key::Commit) => Setter::Commit,
+        Some(Keyword::Read) => Setter::Read,
+        Some(Keyword::Spawn) => Setter::Spawn,
+        Some(Keyword::Join) => Setter::Join,
+        Some(Keyword::Pop) => Setter::Pop,
+        Some(Keyword::Commit) => Setter::Commit,
         _ => Setter::Value,
     }
 }

@@ -1,7 +1,7 @@
 //! What stands before the part of an expression that is being read.
 
-ghost use Rattle.std.specs.Prelude.{◌≡◌, ◌∷◌, IfOk, reverse};
-ghost use Rattle.script_lang.specs.Expressions.{rank, reduce, compares, takes_not, tight};
+ghost use Rattle.std.specs.Prelude.{◌≡◌, ◌∷◌, ◌++◌, [], IfOk, reverse};
+ghost use Rattle.script_lang.specs.Expressions.{precedence, reduce, is_after_comparison, may_be_negated, left_precedence};
 
 use crate::parts::{Part, Wrapper, join_parts, negate_part};
 use boki_types::BinOp;
@@ -10,7 +10,7 @@ use std::alloc::Global;
 
 /// What stands before the part that is being read.
 #[derive(Drop)]
-pub enum Item {
+pub enum StackItem {
     /// A parenthesis that is open.
     Open(Wrapper),
     Not,
@@ -20,20 +20,20 @@ pub enum Item {
 
 /// What may come next.
 #[derive(Drop)]
-pub enum Place {
+pub enum ExprState {
     /// An operand.
-    Due,
+    NeedsOperand,
     /// The number whose sign was read.
-    Signed,
+    NeedsNumber,
     /// The parenthesis behind `text` or `len`.
-    Opens(Wrapper),
+    NeedsParen(Wrapper),
     /// An operator, or the end: this part is read.
-    Read(Part),
+    HasOperand(Part),
 }
 
 /// How tightly an operator binds. `not` binds as 3, between `and` and the comparisons.
-pub(crate) fn rank_of(op: BinOp) -> u8
-    ensures { result ≡ rank op }
+pub(crate) fn precedence_of(op: BinOp) -> u8
+    ensures { result ≡ precedence op }
 {
     match op {
         BinOp::Or => 1,
@@ -44,66 +44,74 @@ pub(crate) fn rank_of(op: BinOp) -> u8
     }
 }
 
-/// How tightly those bind that take what is read before an operator of this rank.
-pub(crate) fn tight_rank(rank: u8) -> u8
-    ensures { result ≡ tight rank }
+/// How tightly those bind that take what is read before an operator of this precedence.
+pub(crate) fn left_precedence_of(precedence: u8) -> u8
+    ensures { result ≡ left_precedence precedence }
 {
-    if rank == 4 { 5 } else { rank }
+    if precedence == 4 { 5 } else { precedence }
+}
+
+/// Puts an item back, and gives what was read behind it.
+fn put_back<A: Drop, B: Drop>(stack: &mut Vec<A>, item: A, read: B) -> Result<B, Memory>
+    ensures { IfOk result (λ x. (stack.new.items ≡ stack.old.items ++ item ∷ []) × (x ≡ read)) }
+{
+    match stack.push(item) {
+        Ok(()) => Ok(read),
+        Err(_) => {
+            drop(read);
+            Err(Memory)
+        }
+    }
 }
 
 /// Gives the operators that bind at least so tightly what is read as their right side.
-pub(crate) fn take_right(
+pub(crate) fn reduce_stack(
     alloc: Global,
-    rank: u8,
-    stack: &mut Vec<Item>,
+    precedence: u8,
+    stack: &mut Vec<StackItem>,
     read: Part,
 ) -> Result<Part, Memory>
-    ensures { IfOk result (λ x. (reverse stack.new.items, x) ≡ reduce rank (reverse stack.old.items) read) }
+    ensures { IfOk result (λ x. (reverse stack.new.items, x) ≡ reduce precedence (reverse stack.old.items) read) }
 {
     let mut read = read;
     'items: while let Some(item) = stack.pop() {
         match item {
-            Item::Left(left, op) => {
-                if rank <= rank_of(op) {
+            StackItem::Left(left, op) => {
+                if precedence <= precedence_of(op) {
                     read = join_parts(alloc, op, left, read)?;
                 } else {
-                    stack.push(Item::Left(left, op))?;
-                    return Ok(read);
+                    return put_back(stack, StackItem::Left(left, op), read);
                 }
             }
-            Item::Not => {
-                if rank <= 3 {
+            StackItem::Not => {
+                if precedence <= 3 {
                     read = negate_part(alloc, read)?;
                 } else {
-                    stack.push(Item::Not)?;
-                    return Ok(read);
+                    return put_back(stack, StackItem::Not, read);
                 }
             }
-            Item::Open(wrapper) => {
-                stack.push(Item::Open(wrapper))?;
-                return Ok(read);
-            }
+            StackItem::Open(wrapper) => return put_back(stack, StackItem::Open(wrapper), read),
         }
     }
     Ok(read)
 }
 
 /// Whether the left side of a comparison stands last.
-pub(crate) fn is_comparing(stack: &Vec<Item>) -> bool
-    ensures { result ≡ compares (reverse stack.now.items) }
+pub(crate) fn is_behind_comparison(stack: &Vec<StackItem>) -> bool
+    ensures { result ≡ is_after_comparison (reverse stack.now.items) }
 {
     match stack.last() {
-        Some(Item::Left(_, op)) => rank_of(*op) == 4,
+        Some(StackItem::Left(_, op)) => precedence_of(*op) == 4,
         _ => false,
     }
 }
 
 /// Whether `not` may come.
-pub(crate) fn may_negate(stack: &Vec<Item>) -> bool
-    ensures { result ≡ takes_not (reverse stack.now.items) }
+pub(crate) fn may_negate(stack: &Vec<StackItem>) -> bool
+    ensures { result ≡ may_be_negated (reverse stack.now.items) }
 {
     match stack.last() {
-        Some(Item::Left(_, op)) => rank_of(*op) < 4,
+        Some(StackItem::Left(_, op)) => precedence_of(*op) < 4,
         _ => true,
     }
 }

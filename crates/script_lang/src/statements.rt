@@ -1,24 +1,25 @@
 //! Statements, from the tokens of a line.
 
 ghost use Rattle.std.specs.Prelude.{◌≡◌, IfOk};
-ghost use Rattle.script_lang.specs.Stream.{behind};
-ghost use Rattle.script_lang.specs.Statements.{alone, applied, call_at, head_of, named_head, map_rated, set_value, set_spawn, set_commit, make_commit, set_by, let_of, two_of, one_of, group_of, all_of, keyed, stmt_of};
-ghost use Rattle.script_lang.specs.Making.{value_made, pair_made, one_made, group_made};
+ghost use Rattle.line_text.specs.Stream.{found_before};
+ghost use Rattle.line_text.specs.Readers.{if_at_end};
+ghost use Rattle.script_lang.specs.Statements.{name_and_list, call_at, function_head_of, behind_function, set_value, set_spawn, set_commit, make_commit, set_by, let_of, pair_stmt_of, expr_stmt_of, group_stmt_of, read_all_of, behind_keyword, stmt_of};
+ghost use Rattle.line_text.specs.Checks.{map_checked};
+ghost use Rattle.script_lang.specs.StatementForms.{make_value_stmt, make_pair_stmt, make_expr_stmt, make_group_stmt};
 
-use crate::elements::{Element, rate_both, read_name};
 use crate::expressions::read_expr;
-use crate::rated::Rated;
 use crate::setters::{Setter, take_setter};
-use crate::several::{Several, at_most_eight, read_listed, read_several};
-use crate::token::{Key, Mark, Token};
-use crate::tokens::Tokens;
 use boki_types::{Expr, Stmt};
 use lb_base::{List, Memory, Value, Words};
+use line_text::{
+    Checked, CommaList, Element, Keyword, Punctuation, Token, Tokens, at_most_eight_items,
+    check_both, checked_at_end, read_comma_list, read_name, read_paren_list,
+};
 use std::alloc::Global;
 
 /// A statement with a variable and an expression.
 #[derive(Clone, Copy, PartialEq, Eq)]
-pub enum OfValue {
+pub enum ValueForm {
     Let,
     Read,
     Join,
@@ -27,14 +28,14 @@ pub enum OfValue {
 
 /// A statement with two expressions.
 #[derive(Clone, Copy, PartialEq, Eq)]
-pub enum OfPair {
+pub enum PairForm {
     Write,
     Push,
 }
 
 /// A statement with one expression.
 #[derive(Clone, Copy, PartialEq, Eq)]
-pub enum OfOne {
+pub enum ExprForm {
     If,
     While,
     Return,
@@ -42,80 +43,73 @@ pub enum OfOne {
 
 /// A statement with names and expressions.
 #[derive(Clone, Copy, PartialEq, Eq)]
-pub enum OfGroup {
+pub enum GroupForm {
     Begin,
     ReadAll,
 }
 
-/// A statement, where nothing follows it.
-fn only(tokens: &Tokens, stmt: Rated<Stmt>) -> Option<Rated<Stmt>>
-    ensures { result ≡ alone tokens.now stmt }
-{
-    if tokens.is_empty() { Some(stmt) } else { None }
-}
-
-fn value_stmt(form: OfValue, both: Rated<(Words, Expr)>) -> Rated<Stmt>
-    ensures { result ≡ map_rated (λ p. value_made form p.0 p.1) both }
+fn value_stmt(form: ValueForm, both: Checked<(Words, Expr)>) -> Checked<Stmt>
+    ensures { result ≡ map_checked (λ p. make_value_stmt form p.0 p.1) both }
 {
     match both {
-        Rated::Fine((name, x)) => match form {
-            OfValue::Let => Rated::Fine(Stmt::Let(name, x)),
-            OfValue::Read => Rated::Fine(Stmt::Read(name, x)),
-            OfValue::Join => Rated::Fine(Stmt::Join(name, x)),
-            OfValue::Pop => Rated::Fine(Stmt::Pop(name, x)),
+        Checked::Valid((name, x)) => match form {
+            ValueForm::Let => Checked::Valid(Stmt::Let(name, x)),
+            ValueForm::Read => Checked::Valid(Stmt::Read(name, x)),
+            ValueForm::Join => Checked::Valid(Stmt::Join(name, x)),
+            ValueForm::Pop => Checked::Valid(Stmt::Pop(name, x)),
         },
-        Rated::Wide => Rated::Wide,
-        Rated::Deep => Rated::Deep,
+        Checked::OutOfRange => Checked::OutOfRange,
+        Checked::TooDeep => Checked::TooDeep,
     }
 }
 
-fn pair_stmt(form: OfPair, both: Rated<(Expr, Expr)>) -> Rated<Stmt>
-    ensures { result ≡ map_rated (λ p. pair_made form p.0 p.1) both }
+fn pair_stmt(form: PairForm, both: Checked<(Expr, Expr)>) -> Checked<Stmt>
+    ensures { result ≡ map_checked (λ p. make_pair_stmt form p.0 p.1) both }
 {
     match both {
-        Rated::Fine((x, y)) => match form {
-            OfPair::Write => Rated::Fine(Stmt::Write(x, y)),
-            OfPair::Push => Rated::Fine(Stmt::Push(x, y)),
+        Checked::Valid((x, y)) => match form {
+            PairForm::Write => Checked::Valid(Stmt::Write(x, y)),
+            PairForm::Push => Checked::Valid(Stmt::Push(x, y)),
         },
-        Rated::Wide => Rated::Wide,
-        Rated::Deep => Rated::Deep,
+        Checked::OutOfRange => Checked::OutOfRange,
+        Checked::TooDeep => Checked::TooDeep,
     }
 }
 
-fn one_stmt(form: OfOne, x: Rated<Expr>) -> Rated<Stmt>
-    ensures { result ≡ map_rated (one_made form) x }
+fn one_stmt(form: ExprForm, x: Checked<Expr>) -> Checked<Stmt>
+    ensures { result ≡ map_checked (make_expr_stmt form) x }
 {
     match x {
-        Rated::Fine(x) => match form {
-            OfOne::If => Rated::Fine(Stmt::If(x)),
-            OfOne::While => Rated::Fine(Stmt::While(x)),
-            OfOne::Return => Rated::Fine(Stmt::Return(x)),
+        Checked::Valid(x) => match form {
+            ExprForm::If => Checked::Valid(Stmt::If(x)),
+            ExprForm::While => Checked::Valid(Stmt::While(x)),
+            ExprForm::Return => Checked::Valid(Stmt::Return(x)),
         },
-        Rated::Wide => Rated::Wide,
-        Rated::Deep => Rated::Deep,
+        Checked::OutOfRange => Checked::OutOfRange,
+        Checked::TooDeep => Checked::TooDeep,
     }
 }
 
-fn group_stmt(form: OfGroup, pairs: Rated<List<(Words, Expr)>>) -> Rated<Stmt>
-    ensures { result ≡ map_rated (group_made form) pairs }
+fn group_stmt(form: GroupForm, pairs: Checked<List<(Words, Expr)>>) -> Checked<Stmt>
+    ensures { result ≡ map_checked (make_group_stmt form) pairs }
 {
     match pairs {
-        Rated::Fine(pairs) => match form {
-            OfGroup::Begin => Rated::Fine(Stmt::Begin(pairs)),
-            OfGroup::ReadAll => Rated::Fine(Stmt::ReadAll(pairs)),
+        Checked::Valid(pairs) => match form {
+            GroupForm::Begin => Checked::Valid(Stmt::Begin(pairs)),
+            GroupForm::ReadAll => Checked::Valid(Stmt::ReadAll(pairs)),
         },
-        Rated::Wide => Rated::Wide,
-        Rated::Deep => Rated::Deep,
+        Checked::OutOfRange => Checked::OutOfRange,
+        Checked::TooDeep => Checked::TooDeep,
     }
 }
 
-fn commit_stmt(name: Rated<Words>, writes: Rated<List<(Expr, Expr)>>) -> Rated<Stmt>
+fn commit_stmt(name: Checked<Words>, writes: Checked<List<(Expr, Expr)>>) -> Checked<Stmt>
     ensures { result ≡ make_commit name writes }
 {
-    match rate_both(name, writes) {
-        Rated::Fine((name, writes)) => Rated::Fine(Stmt::Commit(name, writes)),
-        Rated::Wide => Rated::Wide,
-        Rated::Deep => Rated::Deep,
+    match check_both(name, writes) {
+        Checked::Valid((name, writes)) => Checked::Valid(Stmt::Commit(name, writes)),
+        Checked::OutOfRange => Checked::OutOfRange,
+        Checked::TooDeep => Checked::TooDeep,
     }
 }
 
@@ -123,31 +117,31 @@ fn commit_stmt(name: Rated<Words>, writes: Rated<List<(Expr, Expr)>>) -> Rated<S
 fn read_value_stmt(
     alloc: Global,
     tokens: &mut Tokens,
-    form: OfValue,
-    name: Rated<Words>,
-) -> Result<Option<Rated<Stmt>>, Memory>
-    ensures { IfOk result (λ r. r ≡ set_value (value_made form) name tokens.old) }
+    form: ValueForm,
+    name: Checked<Words>,
+) -> Result<Option<Checked<Stmt>>, Memory>
+    ensures { IfOk result (λ r. r ≡ set_value (make_value_stmt form) name tokens.old) }
 {
     match read_expr(alloc, tokens)? {
-        Some(x) => Ok(only(tokens, value_stmt(form, rate_both(name, x)))),
+        Some(x) => Ok(checked_at_end(tokens, value_stmt(form, check_both(name, x)))),
         None => Ok(None),
     }
 }
 
 /// A name, and a list in parentheses behind it.
-fn read_applied<T: Element>(
+fn read_name_and_list<T: Element<G>, G>(
     alloc: Global,
     tokens: &mut Tokens,
-) -> Result<Option<(Rated<Words>, Several<T>)>, Memory>
-    ensures { IfOk result (λ r. behind tokens.new r ≡ applied T.Element.reads tokens.old) }
+) -> Result<Option<(Checked<Words>, CommaList<T>)>, Memory>
+    ensures { IfOk result (λ r. found_before tokens.new r ≡ name_and_list T.Element.reads tokens.old) }
 {
     let Some(name) = read_name(tokens) else {
         return Ok(None);
     };
-    if !tokens.takes(Mark::Open) {
+    if !tokens.takes(Punctuation::Open) {
         return Ok(None);
     }
-    match read_listed(alloc, tokens)? {
+    match read_paren_list(alloc, tokens)? {
         Some(list) => Ok(Some((name, list))),
         None => Ok(None),
     }
@@ -160,38 +154,38 @@ fn read_applied<T: Element>(
 pub fn read_call(
     alloc: Global,
     tokens: &mut Tokens,
-) -> Result<Option<Rated<(Words, List<Value>)>>, Memory>
-    ensures { IfOk result (λ found. behind tokens.new found ≡ call_at tokens.old) }
+) -> Result<Option<Checked<(Words, List<Value>)>>, Memory>
+    ensures { IfOk result (λ found. found_before tokens.new found ≡ call_at tokens.old) }
 {
-    match read_applied(alloc, tokens)? {
-        Some((name, args)) => Ok(Some(rate_both(name, args.items))),
+    match read_name_and_list(alloc, tokens)? {
+        Some((name, args)) => Ok(Some(check_both(name, args.items))),
         None => Ok(None),
     }
 }
 
 /// `function F(P, P)`, alone on its line.
-pub(crate) fn read_head(
+pub(crate) fn read_function_head(
     alloc: Global,
     mut tokens: Tokens,
-) -> Result<Option<Rated<(Words, List<Words>)>>, Memory>
-    ensures { IfOk result (λ found. found ≡ head_of tokens) }
+) -> Result<Option<Checked<(Words, List<Words>)>>, Memory>
+    ensures { IfOk result (λ found. found ≡ function_head_of tokens) }
 {
     match tokens.take() {
-        Some(Token::Key(Key::Function)) => read_named(alloc, &mut tokens),
+        Some(Token::Keyword(Keyword::Function)) => read_behind_function(alloc, &mut tokens),
         _ => Ok(None),
     }
 }
 
 /// What follows `function`.
-fn read_named(
+fn read_behind_function(
     alloc: Global,
     tokens: &mut Tokens,
-) -> Result<Option<Rated<(Words, List<Words>)>>, Memory>
-    ensures { IfOk result (λ found. found ≡ named_head tokens.old) }
+) -> Result<Option<Checked<(Words, List<Words>)>>, Memory>
+    ensures { IfOk result (λ found. found ≡ behind_function tokens.old) }
 {
-    match read_applied(alloc, tokens)? {
+    match read_name_and_list(alloc, tokens)? {
         Some((name, params)) => {
-            let head = rate_both(name, at_most_eight(params));
+            let head = check_both(name, at_most_eight_items(params));
             if tokens.is_empty() {
                 Ok(Some(head))
             } else {
@@ -206,20 +200,20 @@ fn read_named(
 fn read_spawn(
     alloc: Global,
     tokens: &mut Tokens,
-    name: Rated<Words>,
-) -> Result<Option<Rated<Stmt>>, Memory>
+    name: Checked<Words>,
+) -> Result<Option<Checked<Stmt>>, Memory>
     ensures { IfOk result (λ r. r ≡ set_spawn name tokens.old) }
 {
-    match read_applied(alloc, tokens)? {
+    match read_name_and_list(alloc, tokens)? {
         Some((function, args)) => {
-            let stmt = match rate_both(rate_both(name, function), args.items) {
-                Rated::Fine(((name, function), args)) => {
-                    Rated::Fine(Stmt::Spawn(name, function, args))
+            let stmt = match check_both(check_both(name, function), args.items) {
+                Checked::Valid(((name, function), args)) => {
+                    Checked::Valid(Stmt::Spawn(name, function, args))
                 }
-                Rated::Wide => Rated::Wide,
-                Rated::Deep => Rated::Deep,
+                Checked::OutOfRange => Checked::OutOfRange,
+                Checked::TooDeep => Checked::TooDeep,
             };
-            Ok(only(tokens, stmt))
+            Ok(checked_at_end(tokens, stmt))
         }
         None => Ok(None),
     }
@@ -229,35 +223,35 @@ fn read_spawn(
 fn read_commit(
     alloc: Global,
     tokens: &mut Tokens,
-    name: Rated<Words>,
-) -> Result<Option<Rated<Stmt>>, Memory>
+    name: Checked<Words>,
+) -> Result<Option<Checked<Stmt>>, Memory>
     ensures { IfOk result (λ r. r ≡ set_commit name tokens.old) }
 {
     if tokens.is_empty() {
-        return Ok(Some(commit_stmt(name, Rated::Fine(List::new(alloc)))));
+        return Ok(Some(commit_stmt(name, Checked::Valid(List::new(alloc)))));
     }
-    match read_several(alloc, tokens)? {
-        Some(writes) => Ok(only(tokens, commit_stmt(name, at_most_eight(writes)))),
+    match read_comma_list(alloc, tokens)? {
+        Some(writes) => Ok(checked_at_end(tokens, commit_stmt(name, at_most_eight_items(writes)))),
         None => Ok(None),
     }
 }
 
 /// What follows `let`.
-fn read_let(alloc: Global, tokens: &mut Tokens) -> Result<Option<Rated<Stmt>>, Memory>
+fn read_let(alloc: Global, tokens: &mut Tokens) -> Result<Option<Checked<Stmt>>, Memory>
     ensures { IfOk result (λ r. r ≡ let_of tokens.old) }
 {
     let Some(name) = read_name(tokens) else {
         return Ok(None);
     };
-    if !tokens.takes(Mark::Assign) {
+    if !tokens.takes(Punctuation::Assign) {
         return Ok(None);
     }
     match take_setter(tokens) {
-        Setter::Value => read_value_stmt(alloc, tokens, OfValue::Let, name),
-        Setter::Read => read_value_stmt(alloc, tokens, OfValue::Read, name),
+        Setter::Value => read_value_stmt(alloc, tokens, ValueForm::Let, name),
+        Setter::Read => read_value_stmt(alloc, tokens, ValueForm::Read, name),
         Setter::Spawn => read_spawn(alloc, tokens, name),
-        Setter::Join => read_value_stmt(alloc, tokens, OfValue::Join, name),
-        Setter::Pop => read_value_stmt(alloc, tokens, OfValue::Pop, name),
+        Setter::Join => read_value_stmt(alloc, tokens, ValueForm::Join, name),
+        Setter::Pop => read_value_stmt(alloc, tokens, ValueForm::Pop, name),
         Setter::Commit => read_commit(alloc, tokens, name),
     }
 }
@@ -266,28 +260,40 @@ fn read_let(alloc: Global, tokens: &mut Tokens) -> Result<Option<Rated<Stmt>>, M
 fn read_pair(
     alloc: Global,
     tokens: &mut Tokens,
-    form: OfPair,
-) -> Result<Option<Rated<Stmt>>, Memory>
-    ensures { IfOk result (λ r. r ≡ two_of (pair_made form) tokens.old) }
+    form: PairForm,
+) -> Result<Option<Checked<Stmt>>, Memory>
+    ensures { IfOk result (λ r. r ≡ pair_stmt_of (make_pair_stmt form) tokens.old) }
 {
     let Some(x) = read_expr(alloc, tokens)? else {
         return Ok(None);
     };
-    if !tokens.takes(Mark::Comma) {
+    if !tokens.takes(Punctuation::Comma) {
+        drop(x);
         return Ok(None);
     }
-    match read_expr(alloc, tokens)? {
-        Some(y) => Ok(only(tokens, pair_stmt(form, rate_both(x, y)))),
-        None => Ok(None),
+    match read_expr(alloc, tokens) {
+        Ok(Some(y)) => Ok(checked_at_end(tokens, pair_stmt(form, check_both(x, y)))),
+        Ok(None) => {
+            drop(x);
+            Ok(None)
+        }
+        Err(error) => {
+            drop(x);
+            Err(error)
+        }
     }
 }
 
 /// `E`, behind the word.
-fn read_one(alloc: Global, tokens: &mut Tokens, form: OfOne) -> Result<Option<Rated<Stmt>>, Memory>
-    ensures { IfOk result (λ r. r ≡ one_of (one_made form) tokens.old) }
+fn read_one(
+    alloc: Global,
+    tokens: &mut Tokens,
+    form: ExprForm,
+) -> Result<Option<Checked<Stmt>>, Memory>
+    ensures { IfOk result (λ r. r ≡ expr_stmt_of (make_expr_stmt form) tokens.old) }
 {
     match read_expr(alloc, tokens)? {
-        Some(x) => Ok(only(tokens, one_stmt(form, x))),
+        Some(x) => Ok(checked_at_end(tokens, one_stmt(form, x))),
         None => Ok(None),
     }
 }
@@ -296,27 +302,27 @@ fn read_one(alloc: Global, tokens: &mut Tokens, form: OfOne) -> Result<Option<Ra
 fn read_group(
     alloc: Global,
     tokens: &mut Tokens,
-    form: OfGroup,
-) -> Result<Option<Rated<Stmt>>, Memory>
-    ensures { IfOk result (λ r. r ≡ group_of (group_made form) tokens.old) }
+    form: GroupForm,
+) -> Result<Option<Checked<Stmt>>, Memory>
+    ensures { IfOk result (λ r. r ≡ group_stmt_of (make_group_stmt form) tokens.old) }
 {
     if tokens.is_empty() {
-        return Ok(Some(Rated::Wide));
+        return Ok(Some(Checked::OutOfRange));
     }
-    match read_several(alloc, tokens)? {
-        Some(pairs) => Ok(only(tokens, group_stmt(form, at_most_eight(pairs)))),
+    match read_comma_list(alloc, tokens)? {
+        Some(pairs) => Ok(checked_at_end(tokens, group_stmt(form, at_most_eight_items(pairs)))),
         None => Ok(None),
     }
 }
 
 /// `all V = E, V = E`, behind `read`.
-fn read_all_group(alloc: Global, tokens: &mut Tokens) -> Result<Option<Rated<Stmt>>, Memory>
-    ensures { IfOk result (λ r. r ≡ all_of tokens.old) }
+fn read_all_group(alloc: Global, tokens: &mut Tokens) -> Result<Option<Checked<Stmt>>, Memory>
+    ensures { IfOk result (λ r. r ≡ read_all_of tokens.old) }
 {
     match tokens.take() {
         Some(Token::Name(name)) => {
             if name.as_str() == "all" {
-                read_group(alloc, tokens, OfGroup::ReadAll)
+                read_group(alloc, tokens, GroupForm::ReadAll)
             } else {
                 Ok(None)
             }
@@ -326,30 +332,34 @@ fn read_all_group(alloc: Global, tokens: &mut Tokens) -> Result<Option<Rated<Stm
 }
 
 /// What follows a reserved word that begins a statement.
-fn read_keyed(alloc: Global, tokens: &mut Tokens, key: Key) -> Result<Option<Rated<Stmt>>, Memory>
-    ensures { IfOk result (λ r. r ≡ keyed key tokens.old) }
+fn read_behind_keyword(
+    alloc: Global,
+    tokens: &mut Tokens,
+    key: Keyword,
+) -> Result<Option<Checked<Stmt>>, Memory>
+    ensures { IfOk result (λ r. r ≡ behind_keyword key tokens.old) }
 {
     match key {
-        Key::Let => read_let(alloc, tokens),
-        Key::Read => read_all_group(alloc, tokens),
-        Key::Write => read_pair(alloc, tokens, OfPair::Write),
-        Key::Push => read_pair(alloc, tokens, OfPair::Push),
-        Key::Begin => read_group(alloc, tokens, OfGroup::Begin),
-        Key::If => read_one(alloc, tokens, OfOne::If),
-        Key::Else => Ok(only(tokens, Rated::Fine(Stmt::Else))),
-        Key::While => read_one(alloc, tokens, OfOne::While),
-        Key::End => Ok(only(tokens, Rated::Fine(Stmt::End))),
-        Key::Return => read_one(alloc, tokens, OfOne::Return),
+        Keyword::Let => read_let(alloc, tokens),
+        Keyword::Read => read_all_group(alloc, tokens),
+        Keyword::Write => read_pair(alloc, tokens, PairForm::Write),
+        Keyword::Push => read_pair(alloc, tokens, PairForm::Push),
+        Keyword::Begin => read_group(alloc, tokens, GroupForm::Begin),
+        Keyword::If => read_one(alloc, tokens, ExprForm::If),
+        Keyword::Else => Ok(checked_at_end(tokens, Checked::Valid(Stmt::Else))),
+        Keyword::While => read_one(alloc, tokens, ExprForm::While),
+        Keyword::End => Ok(checked_at_end(tokens, Checked::Valid(Stmt::End))),
+        Keyword::Return => read_one(alloc, tokens, ExprForm::Return),
         _ => Ok(None),
     }
 }
 
 /// The statement that the tokens of a line are; None where they are none.
-pub(crate) fn read_stmt(alloc: Global, mut tokens: Tokens) -> Result<Option<Rated<Stmt>>, Memory>
+pub(crate) fn read_stmt(alloc: Global, mut tokens: Tokens) -> Result<Option<Checked<Stmt>>, Memory>
     ensures { IfOk result (λ r. r ≡ stmt_of tokens) }
 {
     match tokens.take() {
-        Some(Token::Key(key)) => read_keyed(alloc, &mut tokens, key),
+        Some(Token::Keyword(key)) => read_behind_keyword(alloc, &mut tokens, key),
         _ => Ok(None),
     }
 }

@@ -9,8 +9,8 @@ use Rattle.std.specs.FinMap.Entries.{by_order}
 use Rattle.lb_base.specs.declared.value.Value.{Value}
 use Rattle.std.specs.Ordering.{is_eq}
 use Rattle.boki_model.specs.Maps.{key_order, put}
-use Rattle.boki_model.specs.Values.{value_in}
-use Rattle.script_run.specs.Places.{place_of, shifted}
+use Rattle.boki_model.specs.Values.{variable_value}
+use Rattle.script_run.specs.VariableIndex.{variable_index, shifted}
 
 abbrev pub Entry : Type 0
 Entry = List ℕ × Value
@@ -19,15 +19,15 @@ Entry = List ℕ × Value
 pub drop_at : {A : Type 0} (xs : List A) (i : ℕ) (x : A) → i < length xs → x ≡ get_or xs i x → drop i xs ≡ x ∷ drop (i + 1) xs
 drop_at xs i x within is = rw (add-one, drop-cons xs i x) (ap (λ y. y ∷ drop (suc i) xs) (sym is))
 
-value_cons : (x : List ℕ) (e : Entry) (es : List Entry) → value_in x (e ∷ es) ≡ cond (bytes_eq x e.0) e.1 (value_in x es)
+value_cons : (x : List ℕ) (e : Entry) (es : List Entry) → variable_value x (e ∷ es) ≡ cond (bytes_eq x e.0) e.1 (variable_value x es)
 value_cons x e es = by (bytes_eq x e.0) (is_eq-slice_cmp x e.0)
   where
-    by : (b : Bool) → is_eq (key_order x e.0) ≡ b → value_in x (e ∷ es) ≡ cond b e.1 (value_in x es)
+    by : (b : Bool) → is_eq (key_order x e.0) ≡ b → variable_value x (e ∷ es) ≡ cond b e.1 (variable_value x es)
     by true p = rw p refl
     by false p = rw p refl
 
-pub value_at : (x : List ℕ) (vs : List Entry) (i : ℕ) (e : Entry) → i < length vs → e ≡ get_or vs i e → value_in x (drop i vs) ≡ cond (bytes_eq x e.0) e.1 (value_in x (drop (i + 1) vs))
-value_at x vs i e within is = ap (value_in x) (drop_at vs i e within is) ∙ value_cons x e (drop (i + 1) vs)
+pub value_at : (x : List ℕ) (vs : List Entry) (i : ℕ) (e : Entry) → i < length vs → e ≡ get_or vs i e → variable_value x (drop i vs) ≡ cond (bytes_eq x e.0) e.1 (variable_value x (drop (i + 1) vs))
+value_at x vs i e within is = ap (variable_value x) (drop_at vs i e within is) ∙ value_cons x e (drop (i + 1) vs)
 
 -- a place behind so many entries
 abbrev pub behind : ℕ → Result ℕ ℕ → Result ℕ ℕ
@@ -38,13 +38,13 @@ behind_shifted : (n : ℕ) (r : Result ℕ ℕ) → behind n (shifted r) ≡ beh
 behind_shifted n (Ok m) = ap Ok (omega arith)
 behind_shifted n (Err m) = ap Err (omega arith)
 
-pub place_at : (x : List ℕ) (vs : List Entry) (i : ℕ) (e : Entry) → i < length vs → e ≡ get_or vs i e → behind i (place_of x (drop i vs)) ≡ by_order (key_order x e.0) (Err i) (Ok i) (behind (i + 1) (place_of x (drop (i + 1) vs)))
-place_at x vs i e within is = ap (λ es. behind i (place_of x es)) (drop_at vs i e within is) ∙ by (key_order x e.0)
+pub place_at : (x : List ℕ) (vs : List Entry) (i : ℕ) (e : Entry) → i < length vs → e ≡ get_or vs i e → behind i (variable_index x (drop i vs)) ≡ by_order (key_order x e.0) (Err i) (Ok i) (behind (i + 1) (variable_index x (drop (i + 1) vs)))
+place_at x vs i e within is = ap (λ es. behind i (variable_index x es)) (drop_at vs i e within is) ∙ by (key_order x e.0)
   where
-    by : (o : Ordering) → behind i (by_order o (Err 0) (Ok 0) (shifted (place_of x (drop (i + 1) vs)))) ≡ by_order o (Err i) (Ok i) (behind (i + 1) (place_of x (drop (i + 1) vs)))
+    by : (o : Ordering) → behind i (by_order o (Err 0) (Ok 0) (shifted (variable_index x (drop (i + 1) vs)))) ≡ by_order o (Err i) (Ok i) (behind (i + 1) (variable_index x (drop (i + 1) vs)))
     by Less = ap Err (omega arith)
     by Equal = ap Ok (omega arith)
-    by Greater = behind_shifted i (place_of x (drop (i + 1) vs))
+    by Greater = behind_shifted i (variable_index x (drop (i + 1) vs))
 
 -- the value at a place
 abbrev pub valued : List Entry → ℕ → Value → List Entry
@@ -65,12 +65,12 @@ edited_later : (x : List ℕ) (v : Value) (e : Entry) (es : List Entry) (r : Res
 edited_later x v e es (Ok n) = refl
 edited_later x v e es (Err n) = refl
 
-put_by : (x : List ℕ) (v : Value) (e : Entry) (es : List Entry) → put x v es ≡ edited x v es (place_of x es) → (o : Ordering) → by_order o ((x, v) ∷ e ∷ es) ((e.0, v) ∷ es) (e ∷ put x v es) ≡ edited x v (e ∷ es) (by_order o (Err 0) (Ok 0) (shifted (place_of x es)))
+put_by : (x : List ℕ) (v : Value) (e : Entry) (es : List Entry) → put x v es ≡ edited x v es (variable_index x es) → (o : Ordering) → by_order o ((x, v) ∷ e ∷ es) ((e.0, v) ∷ es) (e ∷ put x v es) ≡ edited x v (e ∷ es) (by_order o (Err 0) (Ok 0) (shifted (variable_index x es)))
 put_by x v e es later Less = refl
 put_by x v e es later Equal = refl
-put_by x v e es later Greater = ap (λ ds. e ∷ ds) later ∙ sym (edited_later x v e es (place_of x es))
+put_by x v e es later Greater = ap (λ ds. e ∷ ds) later ∙ sym (edited_later x v e es (variable_index x es))
 
-pub put_edits : (x : List ℕ) (v : Value) (es : List Entry) → put x v es ≡ edited x v es (place_of x es)
+pub put_edits : (x : List ℕ) (v : Value) (es : List Entry) → put x v es ≡ edited x v es (variable_index x es)
 put_edits x v [] = refl
 put_edits x v (e ∷ es) = put_by x v e es (put_edits x v es) (key_order x e.0)
 
@@ -88,9 +88,9 @@ within_by m r h Less = omega arith
 within_by m r h Equal = omega arith
 within_by m r h Greater = within_later m r h
 
-pub place_within : (x : List ℕ) (es : List Entry) → Within (length es) (place_of x es)
+pub place_within : (x : List ℕ) (es : List Entry) → Within (length es) (variable_index x es)
 place_within x [] = omega arith
-place_within x (e ∷ es) = within_by (length es) (place_of x es) (place_within x es) (key_order x e.0)
+place_within x (e ∷ es) = within_by (length es) (variable_index x es) (place_within x es) (key_order x e.0)
 
 pub set_valued : (es : List Entry) (n : ℕ) (e : Entry) (v : Value) → n < length es → e ≡ get_or es n e → set es n (e.0, v) ≡ valued es n v
 set_valued [] n e v within is = absurd (omega arith)

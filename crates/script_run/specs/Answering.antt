@@ -59,7 +59,7 @@ put_one (Some x) v entries = put x v entries
 put_one None v entries = entries
 
 abbrev pub put_pairs : Option (List (List ℕ × Expr)) → List Value → List (List ℕ × Value) → List (List ℕ × Value)
-put_pairs (Some pairs) vs entries = put_each (script.firsts pairs) vs entries
+put_pairs (Some pairs) vs entries = put_each (script.pair_names pairs) vs entries
 put_pairs None vs entries = entries
 
 -- the state behind an answer, or the trap of a join

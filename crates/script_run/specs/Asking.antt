@@ -11,12 +11,12 @@ use Rattle.boki_types.specs.declared.program.Function.{Function}
 use Rattle.boki_types.specs.declared.operation.Op.{Op}
 use Rattle.boki_types.specs.declared.operation.Op.TheVariants as o
 use Rattle.boki_types.specs.Finding.{find}
-use Rattle.boki_model.specs.Values.{then_, eval, name_of}
-use Rattle.script_run.specs.Pairs.{each_of, value_of, second_of, sides_of, named_of}
+use Rattle.boki_model.specs.Values.{and_then, eval, to_name}
+use Rattle.script_run.specs.Pairs.{try_map, value_of, second_of, sides_of, named_of}
 
 -- a name and a value, of which the name is judged once both are worked out
 abbrev pub name_and_value_of : Expr → Expr → List (List ℕ × Value) → Result (List ℕ × Value) TrapKind
-name_and_value_of e f vs = then_ (eval e vs) (λ n. then_ (eval f vs) (λ v. then_ (name_of n) (λ name. Ok (name, v))))
+name_and_value_of e f vs = and_then (eval e vs) (λ n. and_then (eval f vs) (λ v. and_then (to_name n) (λ name. Ok (name, v))))
 
 abbrev pub pushed_of : List ℕ → Value → Result Op TrapKind
 pushed_of queue Nothing = Err trap.Kind
@@ -50,18 +50,18 @@ AsksOperation _ = Unit {0}
 
 -- which one, by the variables, the children spawned and the names that the open transaction has read
 abbrev pub operation_of : List Function → ℕ → Stmt → List (List ℕ × Value) → ℕ → Option (List (List ℕ)) → Result Op TrapKind
-operation_of fs depth (s.Read x e) vs n read = then_ (then_ (eval e vs) name_of) (λ key. Ok (o.Read key))
-operation_of fs depth (s.Write e f) vs n read = then_ (name_and_value_of e f vs) (λ p. Ok (o.Write p.0 p.1))
-operation_of fs depth (s.Spawn x f es) vs n read = then_ (each_of (value_of vs) es) (spawned_of fs depth f n)
-operation_of fs depth (s.Join x e) vs n read = then_ (eval e vs) (joined_of n)
-operation_of fs depth (s.Push e f) vs n read = then_ (name_and_value_of e f vs) (λ p. pushed_of p.0 p.1)
-operation_of fs depth (s.Pop x e) vs n read = then_ (then_ (eval e vs) name_of) (λ queue. Ok (o.Pop queue))
-operation_of fs depth (s.Begin pairs) vs n read = then_ (then_ (each_of (second_of vs) pairs) (each_of name_of)) (begun_of read)
-operation_of fs depth (s.Commit x pairs) vs n read = then_ (then_ (each_of (sides_of vs) pairs) (each_of named_of)) (committed_of read)
-operation_of fs depth (s.ReadAll pairs) vs n read = then_ (then_ (each_of (second_of vs) pairs) (each_of name_of)) (λ keys. Ok (o.ReadGroup keys))
+operation_of fs depth (s.Read x e) vs n read = and_then (and_then (eval e vs) to_name) (λ key. Ok (o.Read key))
+operation_of fs depth (s.Write e f) vs n read = and_then (name_and_value_of e f vs) (λ p. Ok (o.Write p.0 p.1))
+operation_of fs depth (s.Spawn x f es) vs n read = and_then (try_map (value_of vs) es) (spawned_of fs depth f n)
+operation_of fs depth (s.Join x e) vs n read = and_then (eval e vs) (joined_of n)
+operation_of fs depth (s.Push e f) vs n read = and_then (name_and_value_of e f vs) (λ p. pushed_of p.0 p.1)
+operation_of fs depth (s.Pop x e) vs n read = and_then (and_then (eval e vs) to_name) (λ queue. Ok (o.Pop queue))
+operation_of fs depth (s.Begin pairs) vs n read = and_then (and_then (try_map (second_of vs) pairs) (try_map to_name)) (begun_of read)
+operation_of fs depth (s.Commit x pairs) vs n read = and_then (and_then (try_map (sides_of vs) pairs) (try_map named_of)) (committed_of read)
+operation_of fs depth (s.ReadAll pairs) vs n read = and_then (and_then (try_map (second_of vs) pairs) (try_map to_name)) (λ keys. Ok (o.ReadGroup keys))
 operation_of fs depth _ vs n read = Err trap.Kind
 
 -- a child's ordinal is below 4,096
-abbrev pub IsSmall : Op → Type 0
-IsSmall (o.Spawn ordinal f args) = ordinal < 4096
-IsSmall _ = Unit {0}
+abbrev pub HasSmallOrdinal : Op → Type 0
+HasSmallOrdinal (o.Spawn ordinal f args) = ordinal < 4096
+HasSmallOrdinal _ = Unit {0}

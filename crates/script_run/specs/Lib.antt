@@ -1,7 +1,7 @@
-pub mod Gives
-pub mod Judged
+pub mod Computes
+pub mod Operators
 pub mod Pairs
-pub mod Places
+pub mod VariableIndex
 pub mod Standing
 pub mod Asking
 pub mod Flows

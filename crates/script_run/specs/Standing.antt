@@ -7,7 +7,7 @@ use Rattle.boki_types.specs.declared.program.Stmt.TheVariants as s
 use Rattle.boki_types.specs.declared.operation.Ask.{Ask}
 use Rattle.boki_types.specs.declared.operation.Ask.TheVariants as k
 use Rattle.boki_model.specs.Script as script
-use Rattle.boki_model.specs.Script.{firsts}
+use Rattle.boki_model.specs.Script.{pair_names}
 use Rattle.script_run.specs.declared.state.State.{State}
 use Rattle.script_run.specs.declared.state.Block.{Block}
 use Rattle.script_run.specs.declared.state.Block.TheVariants as b
@@ -41,28 +41,28 @@ target_of (Some (s.Read x e)) = script.One x
 target_of (Some (s.Spawn x f es)) = script.One x
 target_of (Some (s.Join x e)) = script.One x
 target_of (Some (s.Pop x e)) = script.One x
-target_of (Some (s.Begin pairs)) = script.Each (firsts pairs)
+target_of (Some (s.Begin pairs)) = script.Each (pair_names pairs)
 target_of (Some (s.Commit x pairs)) = script.One x
-target_of (Some (s.ReadAll pairs)) = script.Each (firsts pairs)
+target_of (Some (s.ReadAll pairs)) = script.Each (pair_names pairs)
 target_of _ = script.Nowhere
 
 -- where a script stands that asks at the line of this number, or is done
-abbrev pub stands_at : List Stmt → Ask → ℕ → script.State → script.Standing
-stands_at lines (k.Op op) at t = script.Asks op (target_of (slice_get lines at)) (drop (at + 1) lines) t
-stands_at lines (k.Done outcome) at t = script.Ended outcome
+abbrev pub stop_point_at : List Stmt → Ask → ℕ → script.State → script.StopPoint
+stop_point_at lines (k.Op op) at t = script.AtOperation op (target_of (slice_get lines at)) (drop (at + 1) lines) t
+stop_point_at lines (k.Done outcome) at t = script.AtEnd outcome
 
 -- what a script has made so far, as a frame keeps it
-pub record Made : Type 0 where
+pub record LocalState : Type 0 where
   pub variables : List (List ℕ × Value)
   pub blocks : List Block
   pub spawned : ℕ
   pub transaction : Option (List (List ℕ))
 
-abbrev pub made_of : State → Made
-made_of m = record { variables = m.variables.items; blocks = m.blocks.items; spawned = m.spawned; transaction = m.transaction }
+abbrev pub local_state_of : State → LocalState
+local_state_of m = record { variables = m.variables.items; blocks = m.blocks.items; spawned = m.spawned; transaction = m.transaction }
 
-abbrev pub state_from : List Stmt → Made → script.State
+abbrev pub state_from : List Stmt → LocalState → script.State
 state_from lines m = record { variables = m.variables; blocks = blocks_of lines m.blocks; spawned = m.spawned; transaction = m.transaction }
 
 abbrev pub state_of : List Stmt → State → script.State
-state_of lines m = state_from lines (made_of m)
+state_of lines m = state_from lines (local_state_of m)

@@ -6,7 +6,7 @@ ghost use Rattle.boki_types.specs.declared.program.Stmt.{Stmt};
 ghost use Rattle.boki_types.specs.declared.operation.Answer.{Answer};
 ghost use Rattle.boki_model.specs.Script as script;
 ghost use Rattle.script_run.specs.Standing.{state_of, target_of};
-ghost use Rattle.script_run.specs.Asking.{IsSmall};
+ghost use Rattle.script_run.specs.Asking.{HasSmallOrdinal};
 ghost use Rattle.script_run.specs.Answering.{IsOfKind, put_each, variable_of, pairs_of, put_one, put_pairs, received};
 
 use crate::conditions::truth;
@@ -36,7 +36,7 @@ fn set_named(
     pairs: &[(Words, Expr)],
     values: &[Value],
 ) -> Result<(), Memory>
-    ensures { OnOk result (variables.new.items ≡ put_each (script.firsts pairs.now) values.now variables.old.items) }
+    ensures { OnOk result (variables.new.items ≡ put_each (script.pair_names pairs.now) values.now variables.old.items) }
 {
     'pairs: for (pair, value) in pairs.iter().zip(values) {
         put(variables, &pair.0, value.clone()?)?;
@@ -98,7 +98,7 @@ fn receive_values(
     state: &mut State,
 ) -> Result<(), Memory>
     requires { IsOfKind operation.now (Answer.Values values.now) }
-    ensures { OnOk result ((lines : List Stmt) → script.answered operation.now (target_of (option_copied line.entry)) (Answer.Values values.now) (state_of lines state.old) ≡ Some (Ok (state_of lines state.new))) }
+    ensures { OnOk result ((lines : List Stmt) → script.apply_answer operation.now (target_of (option_copied line.entry)) (Answer.Values values.now) (state_of lines state.old) ≡ Some (Ok (state_of lines state.new))) }
 {
     set_several(&mut state.variables, line, values)?;
     if let Op::Begin { names } = operation {
@@ -115,8 +115,8 @@ pub(crate) fn receive(
     state: &mut State,
 ) -> Result<Option<TrapKind>, Memory>
     requires kind { IsOfKind operation.now answer }
-    requires small { IsSmall operation.now }
-    ensures { IfOk result (λ why. (lines : List Stmt) → script.answered operation.now (target_of (option_copied line.entry)) answer (state_of lines state.old) ≡ Some (received why (state_of lines state.new))) }
+    requires small { HasSmallOrdinal operation.now }
+    ensures { IfOk result (λ why. (lines : List Stmt) → script.apply_answer operation.now (target_of (option_copied line.entry)) answer (state_of lines state.old) ≡ Some (received why (state_of lines state.new))) }
 {
     match answer {
         Answer::Done => Ok(None),

@@ -1,7 +1,7 @@
 //! Copies that are told to be the same value.
 
 ghost use Rattle.std.specs.Prelude.{◌≡◌, IfOk};
-ghost use Rattle.script_run.specs.Standing.{made_of};
+ghost use Rattle.script_run.specs.Standing.{local_state_of};
 
 use crate::state::{Block, State};
 use boki_types::{Ask, Op};
@@ -70,7 +70,7 @@ fn copy_transaction(names: &Option<List<Words>>) -> Result<Option<List<Words>>, 
 
 /// A copy of what a script has made.
 pub(crate) fn copy_state(alloc: Global, state: &State) -> Result<State, Memory>
-    ensures { IfOk result (λ copy. made_of copy ≡ made_of state.now) }
+    ensures { IfOk result (λ copy. local_state_of copy ≡ local_state_of state.now) }
 {
     Ok(State {
         variables: copy_variables(alloc, state.variables.as_slice())?,

@@ -3,11 +3,11 @@
 
 ghost use Rattle.std.specs.Prelude.{◌≡◌};
 ghost use Rattle.boki_model.specs.Values.{eval as eval_of};
-ghost use Rattle.script_run.specs.Gives.{Gives};
+ghost use Rattle.script_run.specs.Computes.{Computes};
 
 use crate::conditions::negated;
-use crate::halt::Halt;
-use crate::operators::{decided, judged, length_of, text_of};
+use crate::fault::EvalFault;
+use crate::operators::{apply, length_of, short_circuit, text_of};
 use crate::variables::look_up;
 use boki_types::Expr;
 use lb_base::{Value, Words};
@@ -17,8 +17,12 @@ use std::alloc::Global;
 /// The value of an expression.
 ///
 /// It calls itself as deep as the expression is.
-pub(crate) fn eval(alloc: Global, x: &Expr, variables: &[(Words, Value)]) -> Result<Value, Halt>
-    ensures { Gives (eval_of x.now variables.now) result }
+pub(crate) fn eval(
+    alloc: Global,
+    x: &Expr,
+    variables: &[(Words, Value)],
+) -> Result<Value, EvalFault>
+    ensures { Computes (eval_of x.now variables.now) result }
 {
     match x {
         Expr::Int(n) => Ok(Value::Int(*n)),
@@ -31,11 +35,11 @@ pub(crate) fn eval(alloc: Global, x: &Expr, variables: &[(Words, Value)]) -> Res
         }
         Expr::Two(op, x, y) => {
             let left = eval(alloc, x.get(), variables)?;
-            match decided(*op, &left)? {
+            match short_circuit(*op, &left)? {
                 Some(value) => Ok(value),
                 None => {
                     let right = eval(alloc, y.get(), variables)?;
-                    judged(*op, left, &right)
+                    apply(*op, left, &right)
                 }
             }
         }

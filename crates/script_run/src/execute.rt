@@ -11,13 +11,13 @@ ghost use Rattle.boki_model.specs.Values.{eval as eval_of};
 ghost use Rattle.boki_model.specs.Script as script;
 ghost use Rattle.script_run.specs.Standing.{state_of, while_of};
 ghost use Rattle.script_run.specs.Asking.{AsksOperation};
-ghost use Rattle.script_run.specs.Flows.{Leads, IsSmallAsk, Enters, flow_of};
+ghost use Rattle.script_run.specs.Flows.{HasFlow, AsksSmallOrdinal, Enters, flow_of};
 
 use crate::eval::eval;
-use crate::halt::Halt;
+use crate::fault::EvalFault;
 use crate::names::test;
 use crate::operations::operation;
-use crate::state::{Block, State};
+use crate::state::{Block, State, replace};
 use crate::variables::put;
 use boki_types::{Ask, Expr, Program, Stmt};
 use lb_base::{Memory, Outcome, Words};
@@ -37,8 +37,8 @@ pub(crate) enum Flow {
 }
 
 /// Sets a variable.
-fn set(alloc: Global, name: &Words, x: &Expr, state: &mut State) -> Result<Flow, Halt>
-    ensures leads { (lines : List Stmt) (at : ℕ) (ask : Ask) → Leads (script.or_trap (eval_of x.now state.old.variables.items) (λ v. script.Next (script.set name.now v (state_of lines state.old)))) lines at ask (state_of lines state.new) result }
+fn set(alloc: Global, name: &Words, x: &Expr, state: &mut State) -> Result<Flow, EvalFault>
+    ensures leads { (lines : List Stmt) (at : ℕ) (ask : Ask) → HasFlow (script.then_flow (eval_of x.now state.old.variables.items) (λ v. script.Next (script.set_variable name.now v (state_of lines state.old)))) lines at ask (state_of lines state.new) result }
     ensures enters { (count : ℕ) → IfOk result (Enters count) }
 {
     let value = eval(alloc, x, state.variables.as_slice())?;
@@ -47,8 +47,8 @@ fn set(alloc: Global, name: &Words, x: &Expr, state: &mut State) -> Result<Flow,
 }
 
 /// Opens a branch where a test holds.
-fn branch(alloc: Global, x: &Expr, state: &mut State) -> Result<Flow, Halt>
-    ensures leads { (lines : List Stmt) (at : ℕ) (ask : Ask) → Leads (script.tested x.now (state_of lines state.old) (λ b. cond b (script.Next (script.opened script.Branch (state_of lines state.old))) (script.Skip (state_of lines state.old)))) lines at ask (state_of lines state.new) result }
+fn branch(alloc: Global, x: &Expr, state: &mut State) -> Result<Flow, EvalFault>
+    ensures leads { (lines : List Stmt) (at : ℕ) (ask : Ask) → HasFlow (script.test_condition x.now (state_of lines state.old) (λ b. cond b (script.Next (script.push_block script.Branch (state_of lines state.old))) (script.Skip (state_of lines state.old)))) lines at ask (state_of lines state.new) result }
     ensures enters { (count : ℕ) → IfOk result (Enters count) }
 {
     if test(alloc, x, state.variables.as_slice())? {
@@ -60,8 +60,8 @@ fn branch(alloc: Global, x: &Expr, state: &mut State) -> Result<Flow, Halt>
 }
 
 /// Opens the loop of a line where its test holds.
-fn first_entry(alloc: Global, x: &Expr, at: usize, state: &mut State) -> Result<Flow, Halt>
-    ensures leads { (lines : List Stmt) (ask : Ask) → slice_get lines at ≡ Some (statement.While x.now) → Leads (script.tested x.now (state_of lines state.old) (λ b. cond b (script.Enter (drop (at + 1) lines) (script.opened (script.Loop x.now (drop (at + 1) lines)) (state_of lines state.old))) (script.Skip (state_of lines state.old)))) lines at ask (state_of lines state.new) result }
+fn enter_loop(alloc: Global, x: &Expr, at: usize, state: &mut State) -> Result<Flow, EvalFault>
+    ensures leads { (lines : List Stmt) (ask : Ask) → slice_get lines at ≡ Some (statement.While x.now) → HasFlow (script.test_condition x.now (state_of lines state.old) (λ b. cond b (script.Enter (drop (at + 1) lines) (script.push_block (script.Loop x.now (drop (at + 1) lines)) (state_of lines state.old))) (script.Skip (state_of lines state.old)))) lines at ask (state_of lines state.new) result }
     ensures enters { (count : ℕ) → at < count → IfOk result (Enters count) }
 {
     if test(alloc, x, state.variables.as_slice())? {
@@ -74,7 +74,7 @@ fn first_entry(alloc: Global, x: &Expr, at: usize, state: &mut State) -> Result<
 
 /// Closes the innermost block, where one is open.
 fn close(state: &mut State)
-    ensures { (lines : List Stmt) → state_of lines state.new ≡ script.closed (state_of lines state.old) }
+    ensures { (lines : List Stmt) → state_of lines state.new ≡ script.pop_block (state_of lines state.old) }
 {
     let _closed = state.blocks.pop();
 }
@@ -107,8 +107,13 @@ fn loop_test(lines: &[Stmt], at: usize) -> Option<&Expr>
 }
 
 /// Ends a loop's turn: the loop tests its condition again, and is closed where that fails.
-fn end_turn(alloc: Global, x: &Expr, loop_at: usize, state: &mut State) -> Result<Flow, Halt>
-    ensures leads { (lines : List Stmt) (at : ℕ) (ask : Ask) → Leads (script.tested x.now (state_of lines state.old) (λ b. cond b (script.Enter (drop (loop_at + 1) lines) (state_of lines state.old)) (script.Next (script.closed (state_of lines state.old))))) lines at ask (state_of lines state.new) result }
+fn repeat_loop(
+    alloc: Global,
+    x: &Expr,
+    loop_at: usize,
+    state: &mut State,
+) -> Result<Flow, EvalFault>
+    ensures leads { (lines : List Stmt) (at : ℕ) (ask : Ask) → HasFlow (script.test_condition x.now (state_of lines state.old) (λ b. cond b (script.Enter (drop (loop_at + 1) lines) (state_of lines state.old)) (script.Next (script.pop_block (state_of lines state.old))))) lines at ask (state_of lines state.new) result }
     ensures enters { (count : ℕ) → loop_at < count → IfOk result (Enters count) }
 {
     if test(alloc, x, state.variables.as_slice())? {
@@ -120,8 +125,8 @@ fn end_turn(alloc: Global, x: &Expr, loop_at: usize, state: &mut State) -> Resul
 }
 
 /// Ends the innermost block.
-fn end_block(alloc: Global, lines: &[Stmt], state: &mut State) -> Result<Flow, Halt>
-    ensures leads { (at : ℕ) (ask : Ask) → Leads (script.ends (state_of lines.now state.old).blocks (state_of lines.now state.old)) lines.now at ask (state_of lines.now state.new) result }
+fn end_block(alloc: Global, lines: &[Stmt], state: &mut State) -> Result<Flow, EvalFault>
+    ensures leads { (at : ℕ) (ask : Ask) → HasFlow (script.end_block (state_of lines.now state.old).blocks (state_of lines.now state.old)) lines.now at ask (state_of lines.now state.new) result }
     ensures enters { IfOk result (Enters (length lines.now)) }
 {
     match innermost(state.blocks.as_slice()) {
@@ -131,7 +136,7 @@ fn end_block(alloc: Global, lines: &[Stmt], state: &mut State) -> Result<Flow, H
             Ok(Flow::Next)
         }
         Some(Block::Loop(at)) => match loop_test(lines, at) {
-            Some(x) => end_turn(alloc, x, at, state),
+            Some(x) => repeat_loop(alloc, x, at, state),
             None => {
                 close(state);
                 Ok(Flow::Next)
@@ -141,32 +146,33 @@ fn end_block(alloc: Global, lines: &[Stmt], state: &mut State) -> Result<Flow, H
 }
 
 /// Ends the script with a value.
-fn give_back(alloc: Global, x: &Expr, state: &State, ask: &mut Ask) -> Result<Flow, Halt>
-    ensures leads { (lines : List Stmt) (at : ℕ) → Leads (script.or_trap (eval_of x.now state.now.variables.items) (λ v. script.Stop (script.Ended (Good v)))) lines at ask.new (state_of lines state.now) result }
-    ensures small { OnOk result (IsSmallAsk ask.new) }
+fn return_value(alloc: Global, x: &Expr, state: &State, ask: &mut Ask) -> Result<Flow, EvalFault>
+    ensures leads { (lines : List Stmt) (at : ℕ) → HasFlow (script.then_flow (eval_of x.now state.now.variables.items) (λ v. script.Stop (script.AtEnd (Good v)))) lines at ask.new (state_of lines state.now) result }
+    ensures small { OnOk result (AsksSmallOrdinal ask.new) }
     ensures enters { (count : ℕ) → IfOk result (Enters count) }
 {
     let value = eval(alloc, x, state.variables.as_slice())?;
-    *ask = Ask::Done(Outcome::Good(value));
+    replace(ask, Ask::Done(Outcome::Good(value)));
     Ok(Flow::Stop)
 }
 
 /// Stops at a line that asks an operation.
-fn stop(
+fn ask_operation(
     alloc: Global,
     program: &Program,
     depth: u8,
     line: &Stmt,
     state: &State,
     ask: &mut Ask,
-) -> Result<Flow, Halt>
+) -> Result<Flow, EvalFault>
     requires functions { length program.now.functions < 2 ^ 32 }
     requires asks { AsksOperation line.now }
-    ensures leads { (lines : List Stmt) (at : ℕ) → slice_get lines at ≡ Some line.now → Leads (script.execute program.now.functions depth line.now (drop (at + 1) lines) (state_of lines state.now)) lines at ask.new (state_of lines state.now) result }
-    ensures small { OnOk result (IsSmallAsk ask.new) }
+    ensures leads { (lines : List Stmt) (at : ℕ) → slice_get lines at ≡ Some line.now → HasFlow (script.execute program.now.functions depth line.now (drop (at + 1) lines) (state_of lines state.now)) lines at ask.new (state_of lines state.now) result }
+    ensures small { OnOk result (AsksSmallOrdinal ask.new) }
     ensures enters { (count : ℕ) → IfOk result (Enters count) }
 {
-    *ask = Ask::Op(operation(alloc, program, depth, line, state)?);
+    let asked = operation(alloc, program, depth, line, state)?;
+    replace(ask, Ask::Op(asked));
     Ok(Flow::Stop)
 }
 
@@ -179,12 +185,12 @@ fn execute(
     at: usize,
     state: &mut State,
     ask: &mut Ask,
-) -> Result<Flow, Halt>
+) -> Result<Flow, EvalFault>
     requires functions { length program.now.functions < 2 ^ 32 }
     requires within { at < length lines.now }
-    requires small { IsSmallAsk ask.old }
-    ensures leads { (line : Stmt) → slice_get lines.now at ≡ Some line → Leads (script.execute program.now.functions depth line (drop (at + 1) lines.now) (state_of lines.now state.old)) lines.now at ask.new (state_of lines.now state.new) result }
-    ensures small { OnOk result (IsSmallAsk ask.new) }
+    requires small { AsksSmallOrdinal ask.old }
+    ensures leads { (line : Stmt) → slice_get lines.now at ≡ Some line → HasFlow (script.execute program.now.functions depth line (drop (at + 1) lines.now) (state_of lines.now state.old)) lines.now at ask.new (state_of lines.now state.new) result }
+    ensures small { OnOk result (AsksSmallOrdinal ask.new) }
     ensures enters { IfOk result (Enters (length lines.now)) }
 {
     match &lines[at] {
@@ -194,10 +200,10 @@ fn execute(
             close(state);
             Ok(Flow::Skip)
         }
-        Stmt::While(x) => first_entry(alloc, x, at, state),
+        Stmt::While(x) => enter_loop(alloc, x, at, state),
         Stmt::End => end_block(alloc, lines, state),
-        Stmt::Return(x) => give_back(alloc, x, state, ask),
-        line => stop(alloc, program, depth, line, state, ask),
+        Stmt::Return(x) => return_value(alloc, x, state, ask),
+        line => ask_operation(alloc, program, depth, line, state, ask),
     }
 }
 
@@ -213,17 +219,17 @@ pub(crate) fn step(
 ) -> Result<Flow, Memory>
     requires functions { length program.now.functions < 2 ^ 32 }
     requires within { at < length lines.now }
-    requires small { IsSmallAsk ask.old }
+    requires small { AsksSmallOrdinal ask.old }
     ensures leads { IfOk result (λ flow. (line : Stmt) → slice_get lines.now at ≡ Some line → script.execute program.now.functions depth line (drop (at + 1) lines.now) (state_of lines.now state.old) ≡ flow_of lines.now at ask.new (state_of lines.now state.new) flow) }
-    ensures small { OnOk result (IsSmallAsk ask.new) }
+    ensures small { OnOk result (AsksSmallOrdinal ask.new) }
     ensures enters { IfOk result (Enters (length lines.now)) }
 {
     match execute(alloc, program, depth, lines, at, state, ask) {
         Ok(flow) => Ok(flow),
-        Err(Halt::Trap(kind)) => {
-            *ask = Ask::Done(Outcome::Trap(kind));
+        Err(EvalFault::Trap(kind)) => {
+            replace(ask, Ask::Done(Outcome::Trap(kind)));
             Ok(Flow::Stop)
         }
-        Err(Halt::Memory) => Err(Memory),
+        Err(EvalFault::Memory) => Err(Memory),
     }
 }

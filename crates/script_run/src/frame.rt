@@ -7,7 +7,7 @@ ghost use Rattle.boki_types.specs.declared.program.Function.{Function};
 ghost use Rattle.boki_types.specs.Finding.{arity, function_at};
 ghost use Rattle.boki_model.specs.Script as script;
 ghost use Rattle.script_run.specs.Answering.{Takes};
-ghost use Rattle.script_run.specs.Frames.{Stands, lines_of as lines_of_function};
+ghost use Rattle.script_run.specs.Frames.{FrameStandsFor, lines_of as lines_of_function};
 ghost use Rattle.script_run.specs.Standing.{state_of};
 
 use crate::answers::{is_of_kind, receive, set_each};
@@ -24,7 +24,7 @@ use std::marker::Model;
 /// A frame stands for a function of a program, its arguments, its depth and the answers given so far. The calls that take a
 /// program need one equal to that from which the frame was made. They need fewer than 2^32 functions, as every program that is
 /// read from a text has.
-#[derive(Debug, Drop)]
+#[derive(Drop)]
 pub struct Frame {
     function: u32,
     depth: u8,
@@ -36,15 +36,15 @@ pub struct Frame {
 
 impl Model for Frame {
     ghost use Rattle.std.specs.Prelude.{◌<◌, ◌+◌, ◌^◌};
-    ghost use Rattle.script_run.specs.Frames.{Kept};
-    ghost use Rattle.script_run.specs.Flows.{IsSmallAsk};
-    ghost use Rattle.script_run.specs.Standing.{made_of};
+    ghost use Rattle.script_run.specs.Frames.{FrameState};
+    ghost use Rattle.script_run.specs.Flows.{AsksSmallOrdinal};
+    ghost use Rattle.script_run.specs.Standing.{local_state_of};
 
-    ghost Value = { Kept };
+    ghost Value = { FrameState };
 
-    ghost view = { λ f. record { function = f.function; depth = f.depth; at = f.at; ask = f.ask; made = made_of f.state } };
+    ghost view = { λ f. record { function = f.function; depth = f.depth; at = f.at; ask = f.ask; made = local_state_of f.state } };
 
-    ghost invariant = { λ f. IsSmallAsk f.ask × (f.at + 1 < 2 ^ 64) };
+    ghost invariant = { λ f. AsksSmallOrdinal f.ask × (f.at + 1 < 2 ^ 64) };
 }
 
 impl Frame {
@@ -62,7 +62,7 @@ impl Frame {
         requires few { length program.now.functions < 2 ^ 32 }
         requires known { function < length program.now.functions }
         requires fits { arity function program.now.functions ≡ length args.now }
-        ensures { IfOk result (Stands program.now.functions function args.now depth []) }
+        ensures { IfOk result (FrameStandsFor program.now.functions function args.now depth []) }
     {
         let called = &program.functions.as_slice()[function as usize];
         let mut state = opening(alloc, called.params.as_slice(), args)?;
@@ -81,7 +81,7 @@ impl Frame {
     /// What the script asks, or its result. It takes no memory.
     pub fn ask(&self) -> &Ask
         ensures same { result.now ≡ self.now.ask }
-        ensures asked { (functions : List Function) (function : ℕ) (args : List Value) (depth : ℕ) (answers : List Answer) → Stands functions function args depth answers self.now → script.asked functions function args depth answers ≡ Some result.now }
+        ensures asked { (functions : List Function) (function : ℕ) (args : List Value) (depth : ℕ) (answers : List Answer) → FrameStandsFor functions function args depth answers self.now → script.next_ask functions function args depth answers ≡ Some result.now }
     {
         &self.ask
     }
@@ -105,7 +105,7 @@ impl Frame {
     pub fn give(&mut self, alloc: Global, program: &Program, answer: Answer) -> Result<(), Memory>
         requires few { length program.now.functions < 2 ^ 32 }
         requires takes { Takes self.old.ask answer }
-        ensures ok { OnOk result ((function : ℕ) (args : List Value) (depth : ℕ) (answers : List Answer) → Stands program.now.functions function args depth answers self.old → Stands program.now.functions function args depth (answer ∷ answers) self.new) }
+        ensures ok { OnOk result ((function : ℕ) (args : List Value) (depth : ℕ) (answers : List Answer) → FrameStandsFor program.now.functions function args depth answers self.old → FrameStandsFor program.now.functions function args depth (answer ∷ answers) self.new) }
         ensures err { OnErr result (self.new ≡ self.old) }
     {
         *self = self.after(alloc, program, answer)?;
@@ -116,7 +116,7 @@ impl Frame {
     fn after(&self, alloc: Global, program: &Program, answer: Answer) -> Result<Frame, Memory>
         requires few { length program.now.functions < 2 ^ 32 }
         requires takes { Takes self.now.ask answer }
-        ensures { IfOk result (λ next. (function : ℕ) (args : List Value) (depth : ℕ) (answers : List Answer) → Stands program.now.functions function args depth answers self.now → Stands program.now.functions function args depth (answer ∷ answers) next) }
+        ensures { IfOk result (λ next. (function : ℕ) (args : List Value) (depth : ℕ) (answers : List Answer) → FrameStandsFor program.now.functions function args depth answers self.now → FrameStandsFor program.now.functions function args depth (answer ∷ answers) next) }
     {
         let Ask::Op(operation) = &self.ask else {
             unreachable!()
@@ -166,7 +166,7 @@ impl Frame {
 
 /// What a script has made at its start: its parameters have the arguments.
 fn opening(alloc: Global, params: &[Words], args: &[Value]) -> Result<State, Memory>
-    ensures { IfOk result (λ state. (lines : List Stmt) → state_of lines state ≡ script.opening params.now args.now) }
+    ensures { IfOk result (λ state. (lines : List Stmt) → state_of lines state ≡ script.initial_state params.now args.now) }
 {
     let mut variables = Vec::new(alloc);
     set_each(&mut variables, params, args)?;

@@ -1,44 +1,48 @@
 //! Expressions in turn, and names: texts of 1 to 64 bytes.
 
-ghost use Rattle.boki_model.specs.Values.{eval as eval_of, name_of as name_of_value, then_, condition as condition_of};
-ghost use Rattle.script_run.specs.Gives.{Gives};
-ghost use Rattle.script_run.specs.Pairs.{each_of, value_of, second_of, sides_of, named_of};
+ghost use Rattle.boki_model.specs.Values.{eval as eval_of, to_name as name_of_value, and_then, as_condition as condition_of};
+ghost use Rattle.script_run.specs.Computes.{Computes};
+ghost use Rattle.script_run.specs.Pairs.{try_map, value_of, second_of, sides_of, named_of};
 
 use crate::conditions::condition;
 use crate::eval::eval;
-use crate::halt::Halt;
+use crate::fault::EvalFault;
 use boki_types::Expr;
 use lb_base::{List, TrapKind, Value, Words};
 use std::alloc::Global;
 
 /// A value as a name.
-pub(crate) fn name_of(value: Value) -> Result<Words, Halt>
-    ensures { Gives (name_of_value value) result }
+pub(crate) fn name_of(value: Value) -> Result<Words, EvalFault>
+    ensures { Computes (name_of_value value) result }
 {
     match value {
         Value::Text(text) => {
             if 1 <= text.len() && text.len() <= 64 {
                 Ok(text)
             } else {
-                Err(Halt::Trap(TrapKind::Key))
+                Err(EvalFault::Trap(TrapKind::Key))
             }
         }
-        Value::Int(_) => Err(Halt::Trap(TrapKind::Key)),
-        Value::Nothing => Err(Halt::Trap(TrapKind::Key)),
+        Value::Int(_) => Err(EvalFault::Trap(TrapKind::Key)),
+        Value::Nothing => Err(EvalFault::Trap(TrapKind::Key)),
     }
 }
 
 /// The name that an expression gives.
-pub(crate) fn name_at(alloc: Global, x: &Expr, variables: &[(Words, Value)]) -> Result<Words, Halt>
-    ensures { Gives (then_ (eval_of x.now variables.now) name_of_value) result }
+pub(crate) fn name_at(
+    alloc: Global,
+    x: &Expr,
+    variables: &[(Words, Value)],
+) -> Result<Words, EvalFault>
+    ensures { Computes (and_then (eval_of x.now variables.now) name_of_value) result }
 {
     let value = eval(alloc, x, variables)?;
     name_of(value)
 }
 
 /// The condition that an expression gives.
-pub(crate) fn test(alloc: Global, x: &Expr, variables: &[(Words, Value)]) -> Result<bool, Halt>
-    ensures { Gives (then_ (eval_of x.now variables.now) condition_of) result }
+pub(crate) fn test(alloc: Global, x: &Expr, variables: &[(Words, Value)]) -> Result<bool, EvalFault>
+    ensures { Computes (and_then (eval_of x.now variables.now) condition_of) result }
 {
     let value = eval(alloc, x, variables)?;
     condition(&value)
@@ -49,8 +53,8 @@ pub(crate) fn eval_all(
     alloc: Global,
     xs: &[Expr],
     variables: &[(Words, Value)],
-) -> Result<List<Value>, Halt>
-    ensures { Gives (each_of (value_of variables.now) xs.now) result }
+) -> Result<List<Value>, EvalFault>
+    ensures { Computes (try_map (value_of variables.now) xs.now) result }
 {
     let mut values = List::new(alloc);
     'values: for x in xs {
@@ -64,8 +68,8 @@ fn eval_seconds(
     alloc: Global,
     pairs: &[(Words, Expr)],
     variables: &[(Words, Value)],
-) -> Result<List<Value>, Halt>
-    ensures { Gives (each_of (second_of variables.now) pairs.now) result }
+) -> Result<List<Value>, EvalFault>
+    ensures { Computes (try_map (second_of variables.now) pairs.now) result }
 {
     let mut values = List::new(alloc);
     'pairs: for pair in pairs {
@@ -79,8 +83,8 @@ pub(crate) fn eval_pair(
     alloc: Global,
     pair: &(Expr, Expr),
     variables: &[(Words, Value)],
-) -> Result<(Value, Value), Halt>
-    ensures { Gives (sides_of variables.now pair.now) result }
+) -> Result<(Value, Value), EvalFault>
+    ensures { Computes (sides_of variables.now pair.now) result }
 {
     let left = eval(alloc, &pair.0, variables)?;
     let right = eval(alloc, &pair.1, variables)?;
@@ -92,8 +96,8 @@ fn eval_sides(
     alloc: Global,
     pairs: &[(Expr, Expr)],
     variables: &[(Words, Value)],
-) -> Result<List<(Value, Value)>, Halt>
-    ensures { Gives (each_of (sides_of variables.now) pairs.now) result }
+) -> Result<List<(Value, Value)>, EvalFault>
+    ensures { Computes (try_map (sides_of variables.now) pairs.now) result }
 {
     let mut values = List::new(alloc);
     'pairs: for pair in pairs {
@@ -103,8 +107,8 @@ fn eval_sides(
 }
 
 /// Values as names, in their order.
-fn names_of(alloc: Global, values: List<Value>) -> Result<List<Words>, Halt>
-    ensures { Gives (each_of name_of_value values) result }
+fn names_of(alloc: Global, values: List<Value>) -> Result<List<Words>, EvalFault>
+    ensures { Computes (try_map name_of_value values) result }
 {
     let mut names = List::new(alloc);
     'names: for value in values.into_vec() {
@@ -118,16 +122,16 @@ pub(crate) fn names_at(
     alloc: Global,
     pairs: &[(Words, Expr)],
     variables: &[(Words, Value)],
-) -> Result<List<Words>, Halt>
-    ensures { Gives (then_ (each_of (second_of variables.now) pairs.now) (each_of name_of_value)) result }
+) -> Result<List<Words>, EvalFault>
+    ensures { Computes (and_then (try_map (second_of variables.now) pairs.now) (try_map name_of_value)) result }
 {
     let values = eval_seconds(alloc, pairs, variables)?;
     names_of(alloc, values)
 }
 
 /// A name with what is written to it.
-fn named(pair: (Value, Value)) -> Result<(Words, Value), Halt>
-    ensures { Gives (named_of pair) result }
+fn named(pair: (Value, Value)) -> Result<(Words, Value), EvalFault>
+    ensures { Computes (named_of pair) result }
 {
     let (name, value) = pair;
     let name = name_of(name)?;
@@ -135,8 +139,8 @@ fn named(pair: (Value, Value)) -> Result<(Words, Value), Halt>
 }
 
 /// Names with what is written to them, from pairs of values.
-fn named_all(alloc: Global, pairs: List<(Value, Value)>) -> Result<List<(Words, Value)>, Halt>
-    ensures { Gives (each_of named_of pairs) result }
+fn named_all(alloc: Global, pairs: List<(Value, Value)>) -> Result<List<(Words, Value)>, EvalFault>
+    ensures { Computes (try_map named_of pairs) result }
 {
     let mut writes = List::new(alloc);
     'writes: for pair in pairs.into_vec() {
@@ -150,8 +154,8 @@ pub(crate) fn writes_at(
     alloc: Global,
     pairs: &[(Expr, Expr)],
     variables: &[(Words, Value)],
-) -> Result<List<(Words, Value)>, Halt>
-    ensures { Gives (then_ (each_of (sides_of variables.now) pairs.now) (each_of named_of)) result }
+) -> Result<List<(Words, Value)>, EvalFault>
+    ensures { Computes (and_then (try_map (sides_of variables.now) pairs.now) (try_map named_of)) result }
 {
     let values = eval_sides(alloc, pairs, variables)?;
     named_all(alloc, values)

@@ -2,20 +2,18 @@
 //! and then what the operation itself forbids.
 
 ghost use Rattle.std.specs.Prelude.{◌<◌, ◌^◌, length, IfOk};
-ghost use Rattle.script_run.specs.Gives.{Gives};
-ghost use Rattle.script_run.specs.Asking.{name_and_value_of, pushed_of, spawned_of, joined_of, begun_of, committed_of, operation_of, AsksOperation, IsSmall};
+ghost use Rattle.script_run.specs.Computes.{Computes};
+ghost use Rattle.script_run.specs.Asking.{name_and_value_of, pushed_of, spawned_of, joined_of, begun_of, committed_of, operation_of, AsksOperation, HasSmallOrdinal};
 
 use crate::copies::copy_names;
 use crate::eval::eval;
-use crate::halt::Halt;
+use crate::fault::EvalFault;
 use crate::names::{eval_all, name_at, name_of, names_at, writes_at};
 use crate::state::State;
+use boki_model::limits::ORDINALS_BELOW;
 use boki_types::{Expr, Op, Program, Stmt};
 use lb_base::{List, TrapKind, Value, Words};
 use std::alloc::Global;
-
-/// How many children a script may spawn, and one more.
-const TOO_MANY: u32 = 4096;
 
 /// The length of the longest paths, whose scripts spawn nothing.
 const DEEPEST: u8 = 4;
@@ -26,8 +24,8 @@ fn name_and_value(
     x: &Expr,
     y: &Expr,
     variables: &[(Words, Value)],
-) -> Result<(Words, Value), Halt>
-    ensures { Gives (name_and_value_of x.now y.now variables.now) result }
+) -> Result<(Words, Value), EvalFault>
+    ensures { Computes (name_and_value_of x.now y.now variables.now) result }
 {
     let name = eval(alloc, x, variables)?;
     let value = eval(alloc, y, variables)?;
@@ -36,12 +34,12 @@ fn name_and_value(
 }
 
 /// What a push asks: a value that isn't none.
-fn pushed(queue: Words, value: Value) -> Result<Op, Halt>
-    ensures gives { Gives (pushed_of queue value) result }
-    ensures small { IfOk result IsSmall }
+fn pushed(queue: Words, value: Value) -> Result<Op, EvalFault>
+    ensures gives { Computes (pushed_of queue value) result }
+    ensures small { IfOk result HasSmallOrdinal }
 {
     match value {
-        Value::Nothing => Err(Halt::Trap(TrapKind::Kind)),
+        Value::Nothing => Err(EvalFault::Trap(TrapKind::Kind)),
         Value::Int(n) => Ok(Op::Push {
             queue,
             value: Value::Int(n),
@@ -60,15 +58,15 @@ fn spawned(
     function: &Words,
     args: List<Value>,
     spawned: u32,
-) -> Result<Op, Halt>
+) -> Result<Op, EvalFault>
     requires few { spawned < 4096 }
     requires functions { length program.now.functions < 2 ^ 32 }
-    ensures gives { Gives (spawned_of program.now.functions depth function.now spawned args) result }
-    ensures small { IfOk result IsSmall }
+    ensures gives { Computes (spawned_of program.now.functions depth function.now spawned args) result }
+    ensures small { IfOk result HasSmallOrdinal }
 {
     let ordinal = spawned + 1;
-    if depth == DEEPEST || ordinal == TOO_MANY {
-        return Err(Halt::Trap(TrapKind::Spawn));
+    if depth == DEEPEST || ordinal == ORDINALS_BELOW {
+        return Err(EvalFault::Trap(TrapKind::Spawn));
     }
     let function = program.find(function.as_str()).unwrap_or(0);
     Ok(Op::Spawn {
@@ -79,41 +77,44 @@ fn spawned(
 }
 
 /// What a join asks: a child that was spawned.
-fn joined(value: &Value, spawned: u32) -> Result<Op, Halt>
-    ensures gives { Gives (joined_of spawned value.now) result }
-    ensures small { IfOk result IsSmall }
+fn joined(value: &Value, spawned: u32) -> Result<Op, EvalFault>
+    ensures gives { Computes (joined_of spawned value.now) result }
+    ensures small { IfOk result HasSmallOrdinal }
 {
     match value {
         Value::Int(n) => {
             if 1 <= *n && *n <= i64::from(spawned) {
                 Ok(Op::Join { ordinal: *n as u32 })
             } else {
-                Err(Halt::Trap(TrapKind::Join))
+                Err(EvalFault::Trap(TrapKind::Join))
             }
         }
-        Value::Text(_) => Err(Halt::Trap(TrapKind::Join)),
-        Value::Nothing => Err(Halt::Trap(TrapKind::Join)),
+        Value::Text(_) => Err(EvalFault::Trap(TrapKind::Join)),
+        Value::Nothing => Err(EvalFault::Trap(TrapKind::Join)),
     }
 }
 
 /// What a begin asks, where no transaction is open.
-fn begun(names: List<Words>, transaction: &Option<List<Words>>) -> Result<Op, Halt>
-    ensures gives { Gives (begun_of transaction.now names) result }
-    ensures small { IfOk result IsSmall }
+fn begun(names: List<Words>, transaction: &Option<List<Words>>) -> Result<Op, EvalFault>
+    ensures gives { Computes (begun_of transaction.now names) result }
+    ensures small { IfOk result HasSmallOrdinal }
 {
     match transaction {
         None => Ok(Op::Begin { names }),
-        Some(_) => Err(Halt::Trap(TrapKind::Txn)),
+        Some(_) => Err(EvalFault::Trap(TrapKind::Txn)),
     }
 }
 
 /// What a commit asks, where a transaction is open.
-fn committed(writes: List<(Words, Value)>, transaction: &Option<List<Words>>) -> Result<Op, Halt>
-    ensures gives { Gives (committed_of transaction.now writes) result }
-    ensures small { IfOk result IsSmall }
+fn committed(
+    writes: List<(Words, Value)>,
+    transaction: &Option<List<Words>>,
+) -> Result<Op, EvalFault>
+    ensures gives { Computes (committed_of transaction.now writes) result }
+    ensures small { IfOk result HasSmallOrdinal }
 {
     match transaction {
-        None => Err(Halt::Trap(TrapKind::Txn)),
+        None => Err(EvalFault::Trap(TrapKind::Txn)),
         Some(names) => {
             let names = copy_names(names)?;
             Ok(Op::Commit { names, writes })
@@ -128,11 +129,11 @@ pub(crate) fn operation(
     depth: u8,
     line: &Stmt,
     state: &State,
-) -> Result<Op, Halt>
+) -> Result<Op, EvalFault>
     requires functions { length program.now.functions < 2 ^ 32 }
     requires asks { AsksOperation line.now }
-    ensures gives { Gives (operation_of program.now.functions depth line.now state.now.variables.items state.now.spawned state.now.transaction) result }
-    ensures small { IfOk result IsSmall }
+    ensures gives { Computes (operation_of program.now.functions depth line.now state.now.variables.items state.now.spawned state.now.transaction) result }
+    ensures small { IfOk result HasSmallOrdinal }
 {
     let variables = state.variables.as_slice();
     match line {

@@ -1,6 +1,13 @@
-ghost use Rattle.std.specs.Prelude.{◌<◌};
+ghost use Rattle.std.specs.Prelude.{◌<◌, ◌≡◌};
 
 use lb_base::{List, Value, Words};
+
+/// Sets a variable. The old value is dropped by one call, and not variant by variant where the assignment stands.
+pub(crate) fn replace<T: Drop>(slot: &mut T, value: T)
+    ensures { slot.new ≡ value }
+{
+    *slot = value;
+}
 
 /// An open block: a branch, or the loop whose `while` is the line of this number, from 0.
 #[derive(Clone, Copy, Debug)]
@@ -10,7 +17,7 @@ pub(crate) enum Block {
 }
 
 /// What a script has made so far.
-#[derive(Debug, Drop)]
+#[derive(Drop)]
 pub(crate) struct State {
     /// Its variables, in the order of their names.
     pub(crate) variables: Vec<(Words, Value)>,

@@ -2,15 +2,15 @@
 
 ghost use Rattle.std.specs.Prelude.{◌≡◌, OnOk, OnErr, IfOk};
 ghost use Rattle.boki_model.specs.Maps.{put as put_of};
-ghost use Rattle.boki_model.specs.Values.{value_in};
-ghost use Rattle.script_run.specs.Places.{place_of};
+ghost use Rattle.boki_model.specs.Values.{variable_value};
+ghost use Rattle.script_run.specs.VariableIndex.{variable_index};
 
 use lb_base::{Memory, Value, Words};
 use std::cmp::Ordering;
 
 /// The value of a variable.
 pub(crate) fn look_up(name: &Words, variables: &[(Words, Value)]) -> Result<Value, Memory>
-    ensures { IfOk result (λ value. value ≡ value_in name.now variables.now) }
+    ensures { IfOk result (λ value. value ≡ variable_value name.now variables.now) }
 {
     'names: for (known, value) in variables {
         if name == known {
@@ -20,9 +20,9 @@ pub(crate) fn look_up(name: &Words, variables: &[(Words, Value)]) -> Result<Valu
     Ok(Value::Nothing)
 }
 
-/// The place of a variable, from 0, or Err with the place where it is to be put in.
-fn place(name: &Words, variables: &[(Words, Value)]) -> Result<usize, usize>
-    ensures { result ≡ place_of name.now variables.now }
+/// The index of a variable, from 0, or Err with the index at which it is to be put in.
+fn index_of(name: &Words, variables: &[(Words, Value)]) -> Result<usize, usize>
+    ensures { result ≡ variable_index name.now variables.now }
 {
     let mut at = 0;
     'names: for (known, _) in variables {
@@ -44,7 +44,7 @@ pub(crate) fn put(
     ensures ok { OnOk result (variables.new.items ≡ put_of name.now value variables.old.items) }
     ensures err { OnErr result (variables.new.items ≡ variables.old.items) }
 {
-    match place(name, variables.as_slice()) {
+    match index_of(name, variables.as_slice()) {
         Ok(at) => {
             variables[at].1 = value;
             Ok(())

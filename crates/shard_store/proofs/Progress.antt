@@ -3,8 +3,8 @@ use Rattle.std.proofs.Common.{ℕ, zero, suc, ◌+◌, ◌-◌, ◌≤◌, min, 
 use Rattle.std.proofs.lemmas.List.{length_push}
 use Rattle.lb_base.specs.declared.value.Record.{Record}
 use Rattle.boki_model.specs.Order.{least_count, progress}
-use Rattle.boki_model.specs.OrderLaws.{AreAtMost, Have, add_to}
-use Rattle.shard_store.specs.Kept.{Kept, copied}
+use Rattle.boki_model.specs.OrderLaws.{AreAtMost, ShardsHave, add_to}
+use Rattle.shard_store.specs.Kept.{ShardsState, copied_count}
 use Rattle.shard_store.specs.ProgressLaws.{NeverFalls}
 
 least_most : (n : ℕ) (cs : List ℕ) → least_count n cs ≤ n
@@ -24,7 +24,7 @@ most_self : (v : List ℕ) → AreAtMost v v
 most_self [] = tt
 most_self (n ∷ ns) = (omega arith, most_self ns)
 
-progress_there : (shards : List (List Record)) (counts : List (List ℕ)) → Have shards (progress shards counts)
+progress_there : (shards : List (List Record)) (counts : List (List ℕ)) → ShardsHave shards (progress shards counts)
 progress_there [] counts = tt
 progress_there (s ∷ ss) [] = (omega arith, progress_there ss [])
 progress_there (s ∷ ss) (c ∷ cs) = (least_most (length s) c, progress_there ss cs)
@@ -43,9 +43,9 @@ progress_copied k i m (s ∷ ss) [] = most_self (progress (s ∷ ss) [])
 progress_copied zero i m (s ∷ ss) (c ∷ cs) = (least_raised (length s) i m c, most_self (progress ss cs))
 progress_copied (suc k) i m (s ∷ ss) (c ∷ cs) = (omega arith, progress_copied k i m ss cs)
 
-pub never_falls : (kept : Kept) → NeverFalls kept
+pub never_falls : (kept : ShardsState) → NeverFalls kept
 never_falls kept = record {
   there = progress_there kept.shards kept.counts;
   append = λ shard r. progress_appended (shard - 1) r kept.shards kept.counts;
-  copy = λ shard replica n. progress_copied (shard - 1) (replica - 2) (copied shard replica n kept) kept.shards kept.counts;
+  copy = λ shard replica n. progress_copied (shard - 1) (replica - 2) (copied_count shard replica n kept) kept.shards kept.counts;
 }

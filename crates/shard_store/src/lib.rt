@@ -4,7 +4,5 @@
 pub mod laws;
 mod shard;
 mod shards;
-#[cfg(test)]
-mod tests;
 
 pub use shards::Shards;

@@ -16,9 +16,9 @@ pub struct Shard {
 
 impl Model for Shard {
     ghost use Rattle.std.specs.Prelude.{◌≤◌, All, length};
-    ghost use Rattle.shard_store.specs.Kept.{Held};
+    ghost use Rattle.shard_store.specs.Kept.{ShardState};
 
-    ghost Value = { Held };
+    ghost Value = { ShardState };
 
     ghost view = { λ s. record { records = s.records.items; counts = s.counts.items } };
 

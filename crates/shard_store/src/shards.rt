@@ -2,7 +2,7 @@ ghost use Rattle.std.specs.Prelude.{◌≡◌, ℕ, suc, ◌<◌, length, IfOk, 
 ghost use Rattle.std.specs.Option.{option_copied};
 ghost use Rattle.boki_model.specs.Order.{progress};
 ghost use Rattle.boki_model.specs.OrderLaws.{record_at};
-ghost use Rattle.shard_store.specs.Kept.{empty_shards, records_of, HasShard, HasReplica, appended, copied, after_copy};
+ghost use Rattle.shard_store.specs.Kept.{empty_shards, records_of, HasShard, HasReplica, appended, copied_count, after_copy};
 
 use crate::shard::Shard;
 use lb_base::{Memory, Record};
@@ -19,9 +19,9 @@ pub struct Shards {
 
 impl Model for Shards {
     ghost use Rattle.std.specs.Prelude.{map};
-    ghost use Rattle.shard_store.specs.Kept.{Kept};
+    ghost use Rattle.shard_store.specs.Kept.{ShardsState};
 
-    ghost Value = { Kept };
+    ghost Value = { ShardsState };
 
     ghost view = { λ s. record { shards = map (λ h. h.records) s.shards.items; counts = map (λ h. h.counts) s.shards.items } };
 }
@@ -54,7 +54,7 @@ impl Shards {
     pub fn copy(&mut self, shard: u32, replica: u32, n: u64) -> u64
         requires shard { HasShard shard self.old }
         requires replica { HasReplica shard replica self.old }
-        ensures count { result ≡ copied shard replica n self.old }
+        ensures count { result ≡ copied_count shard replica n self.old }
         ensures after { self.new ≡ after_copy shard replica n self.old }
     {
         let shard = &mut self.shards[(shard - 1) as usize];

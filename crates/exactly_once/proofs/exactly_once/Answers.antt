@@ -1,8 +1,8 @@
-use Rattle.exactly_once.proofs.VersionsKeep.{versions_keep}
-use Rattle.exactly_once.proofs.Moves.{moves_keep}
-use Rattle.exactly_once.proofs.Misses.{misses_keep}
-use Rattle.exactly_once.proofs.EventsKeep.{events_keep}
-use Rattle.exactly_once.proofs.Exact.{exactly_once}
+use Rattle.exactly_once.proofs.OldVersions.VersionKeeps.{versions_keep}
+use Rattle.exactly_once.proofs.Attempts.StepKeeps.{moves_keep}
+use Rattle.exactly_once.proofs.Attempts.LostAnswerKeeps.{misses_keep}
+use Rattle.exactly_once.proofs.Machines.EventKeeps.{events_keep}
+use Rattle.exactly_once.proofs.Machines.ExactlyOnce.{exactly_once}
 use Rattle.exactly_once.proofs.exactly_once.Goals as goal
 
 pub returns : goal.returns

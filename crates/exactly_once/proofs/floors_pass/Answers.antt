@@ -1,4 +1,4 @@
-use Rattle.exactly_once.proofs.Exclusion.{floors_pass}
+use Rattle.exactly_once.proofs.Log.ModesAndFloors.{floors_pass}
 use Rattle.exactly_once.proofs.floors_pass.Goals as goal
 
 pub returns : goal.returns

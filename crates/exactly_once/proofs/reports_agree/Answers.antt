@@ -1,4 +1,4 @@
-use Rattle.exactly_once.proofs.Reported.{reports_agree}
+use Rattle.exactly_once.proofs.Simulation.ReportsAgree.{reports_agree}
 use Rattle.exactly_once.proofs.reports_agree.Goals as goal
 
 pub returns : goal.returns

@@ -1,4 +1,4 @@
-use Rattle.exactly_once.proofs.Simulates.{sound_runs}
+use Rattle.exactly_once.proofs.Simulation.SoundLogsRun.{sound_runs}
 use Rattle.exactly_once.proofs.sound_runs.Goals as goal
 
 pub returns : goal.returns

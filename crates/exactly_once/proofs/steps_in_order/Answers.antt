@@ -1,4 +1,4 @@
-use Rattle.exactly_once.proofs.Steps.{steps_in_order}
+use Rattle.exactly_once.proofs.Log.StepRecords.{steps_in_order}
 use Rattle.exactly_once.proofs.steps_in_order.Goals as goal
 
 pub returns : goal.returns

@@ -1,5 +1,5 @@
 use Rattle.std.proofs.Common.{sym, ap, ◌∙◌}
-use Rattle.eng_index.specs.Shown.{mark_at}
+use Rattle.eng_index.specs.IndexState.{mark_at}
 use Rattle.eng_index.proofs.Marks.{live_at}
 use Rattle.eng_index.proofs.Index.live.Goals as goal
 

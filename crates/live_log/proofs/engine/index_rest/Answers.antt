@@ -1,5 +1,5 @@
 use Rattle.std.proofs.Common.{rules, arith}
-use Rattle.eng_index.specs.Shown.{IsUnchanged}
+use Rattle.eng_index.specs.IndexState.{IsUnchanged}
 use Rattle.live_log.proofs.Indexed.{shown_indexed, shown_marks, shown_unchanged}
 use Rattle.live_log.proofs.engine.index_rest.Goals as goal
 

@@ -2,8 +2,8 @@ use Rattle.std.proofs.Common.{take, bytes_eq}
 use Rattle.std.specs.List.{IsDistinct}
 use Rattle.std.specs.Map.{keys_of}
 use Rattle.obj_store.specs.StandsFor.{KeysDiffer}
-use Rattle.obj_store.specs.Steps.{Opens}
+use Rattle.obj_store.specs.Steps.{HoldsInitialObjects}
 use Rattle.obj_store.proofs.objects.initial.Given as goal
 
 abbrev pub invariant-loop-key : goal.invariant-loop-key
-invariant-loop-key l = KeysDiffer l.values → Opens (take l.key-index l.values) l.objects.entries
+invariant-loop-key l = KeysDiffer l.values → HoldsInitialObjects (take l.key-index l.values) l.objects.entries

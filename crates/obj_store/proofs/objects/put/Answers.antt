@@ -2,7 +2,7 @@ use Rattle.std.proofs.Common.{◌≡◌, ap, sym, ◌∙◌, subst, refl, rules}
 use Rattle.std.specs.Option.{option_copied_mut}
 use Rattle.obj_store.specs.Ascending.{Ascend}
 use Rattle.obj_store.specs.Kept.{KeptObject}
-use Rattle.obj_store.specs.Steps.{Widens, with_version}
+use Rattle.obj_store.specs.Steps.{AddsEmptyObjects, with_version}
 use Rattle.obj_store.proofs.Entries.{change_is, object_here, unchanged}
 use Rattle.obj_store.proofs.objects.put.Goals as goal
 
@@ -17,7 +17,7 @@ pub returns-in_err-put-clause-err : goal.returns-in_err-put-clause-err
 returns-in_err-put-clause-err c =
     let is = sym c.get_mut.ensures.value ∙ ap option_copied_mut c.in-Some.is in
     let same : c.put.new.self ≡ c.in-Some.object.now = search rules in
-    let w : Widens c.args.objects.now.entries (c.get_mut.follows.lender c.put.new.self).entries =
+    let w : AddsEmptyObjects c.args.objects.now.entries (c.get_mut.follows.lender c.put.new.self).entries =
     unchanged c.args.key.now (λ (o : KeptObject). o) c.args.objects.now.entries _
     (change_is c.args.key.now (λ (o : KeptObject). o) c.args.objects.now.entries _ c.in-Some.object.now c.put.new.self is same (c.get_mut.follows.holds c.put.new.self).0)
     refl in

@@ -4,8 +4,8 @@ use Rattle.obj_store.proofs.Fronts.{some_entry}
 use Rattle.obj_store.proofs.KeyLists.{with_keys_more}
 use Rattle.obj_store.proofs.sorted.sorted_keys.Goals as goal
 
-pub loop-place-preserved : goal.loop-place-preserved
-loop-place-preserved c =
-    let there = some_entry c.args.objects.now.entries c.loop-place.place (omega arith) in
-    c.in_ok-add_key.ensures there.0 there.1 ∙ ap (with_key there.0) c.loop-place.invariant
-    ∙ sym (with_keys_more c.args.objects.now.entries c.loop-place.place there.0 [] there.1)
+pub loop-index-preserved : goal.loop-index-preserved
+loop-index-preserved c =
+    let there = some_entry c.args.objects.now.entries c.loop-index.index (omega arith) in
+    c.in_ok-add_key.ensures there.0 there.1 ∙ ap (with_key there.0) c.loop-index.invariant
+    ∙ sym (with_keys_more c.args.objects.now.entries c.loop-index.index there.0 [] there.1)

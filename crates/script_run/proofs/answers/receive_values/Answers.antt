@@ -15,7 +15,7 @@ returns-in_ok-copy_names c = λ lines.
     let line = option_copied c.args.line in
     let names = c.in-Begin.names in
     let long = subst (λ (op : Op). IsOfKind op (a.Values vs)) c.in-Begin.is c.requires in
-    ap (λ (op : Op). script.answered op (target_of line) (a.Values vs) t) c.in-Begin.is
+    ap (λ (op : Op). script.apply_answer op (target_of line) (a.Values vs) t) c.in-Begin.is
     ∙ answered_begin names (target_of line) vs t long
     ∙ ap (λ (u : script.State). Some (Ok (record u { transaction = Some names }))) (set_targets_is line vs t)
     ∙ ap (λ (es : Entries). Some (Ok (record t { variables = es; transaction = Some names }))) (sym c.in_ok-set_several.ensures)

@@ -40,4 +40,4 @@ returns-in_ok-right-in-None t c =
     let vs = c.args.variables.now in
     judges c.in-Two.op (eval_of c.get-in-Two.result.now vs) (eval_of c.get-in-None.result.now vs) (eval_of c.args.x.now vs)
     (is_two c.in-Two.op c.args.x.now c.in-Two.x c.in-Two.y c.get-in-Two.result.now c.get-in-None.result.now vs c.in-Two.is c.get-in-Two.ensures c.get-in-None.ensures)
-    c.in_ok-left-in-Two.left c.in_ok-right-in-None.right c.judged.result c.in_ok-left-in-Two.ensures (c.in_ok-value-in-Two.ensures ∙ ap Ok c.in-None.is) c.in_ok-right-in-None.ensures c.judged.ensures
+    c.in_ok-left-in-Two.left c.in_ok-right-in-None.right c.apply.result c.in_ok-left-in-Two.ensures (c.in_ok-value-in-Two.ensures ∙ ap Ok c.in-None.is) c.in_ok-right-in-None.ensures c.apply.ensures

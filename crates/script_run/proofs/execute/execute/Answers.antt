@@ -2,7 +2,7 @@ use Rattle.std.proofs.Common.{◌+◌, ◌∙◌, ap, sym, subst, length, drop, 
 use Rattle.std.proofs.lemmas.Option.{get_or_from_slice_get}
 use Rattle.boki_types.specs.declared.program.Stmt.{Stmt}
 use Rattle.boki_model.specs.Script as script
-use Rattle.script_run.specs.Flows.{Leads}
+use Rattle.script_run.specs.Flows.{HasFlow}
 use Rattle.script_run.specs.Standing.{state_of}
 use Rattle.script_run.proofs.execute.execute.Goals as goal
 
@@ -12,7 +12,7 @@ returns-in-Let-clause-leads c = λ line is.
     let at = c.args.at in
     let x = c.index-lines-at.result in
     let same = sym (get_or_from_slice_get lines at line x is) ∙ sym c.index-lines-at.is ∙ c.in-Let.is in
-    subst (λ (l : Stmt). Leads (script.execute c.args.program.now.functions c.args.depth l (drop (at + 1) lines) (state_of lines c.args.state.now)) lines at c.args.ask.now (state_of lines c.set.new.state) c.set.result)
+    subst (λ (l : Stmt). HasFlow (script.execute c.args.program.now.functions c.args.depth l (drop (at + 1) lines) (state_of lines c.args.state.now)) lines at c.args.ask.now (state_of lines c.set.new.state) c.set.result)
     (sym same) (c.set.ensures.leads lines at c.args.ask.now)
 
 pub returns-in-If-clause-leads : goal.returns-in-If-clause-leads
@@ -21,7 +21,7 @@ returns-in-If-clause-leads c = λ line is.
     let at = c.args.at in
     let x = c.index-lines-at.result in
     let same = sym (get_or_from_slice_get lines at line x is) ∙ sym c.index-lines-at.is ∙ c.in-If.is in
-    subst (λ (l : Stmt). Leads (script.execute c.args.program.now.functions c.args.depth l (drop (at + 1) lines) (state_of lines c.args.state.now)) lines at c.args.ask.now (state_of lines c.branch-alloc.new.state) c.branch-alloc.result)
+    subst (λ (l : Stmt). HasFlow (script.execute c.args.program.now.functions c.args.depth l (drop (at + 1) lines) (state_of lines c.args.state.now)) lines at c.args.ask.now (state_of lines c.branch-alloc.new.state) c.branch-alloc.result)
     (sym same) (c.branch-alloc.ensures.leads lines at c.args.ask.now)
 
 pub returns-in-Else-clause-leads : goal.returns-in-Else-clause-leads
@@ -38,8 +38,8 @@ returns-in-While-clause-leads c = λ line is.
     let at = c.args.at in
     let x = c.index-lines-at.result in
     let same = sym (get_or_from_slice_get lines at line x is) ∙ sym c.index-lines-at.is ∙ c.in-While.is in
-    subst (λ (l : Stmt). Leads (script.execute c.args.program.now.functions c.args.depth l (drop (at + 1) lines) (state_of lines c.args.state.now)) lines at c.args.ask.now (state_of lines c.first_entry.new.state) c.first_entry.result)
-    (sym same) (c.first_entry.ensures.leads lines c.args.ask.now (is ∙ ap Some same))
+    subst (λ (l : Stmt). HasFlow (script.execute c.args.program.now.functions c.args.depth l (drop (at + 1) lines) (state_of lines c.args.state.now)) lines at c.args.ask.now (state_of lines c.enter_loop.new.state) c.enter_loop.result)
+    (sym same) (c.enter_loop.ensures.leads lines c.args.ask.now (is ∙ ap Some same))
 
 pub returns-in-End-clause-leads : goal.returns-in-End-clause-leads
 returns-in-End-clause-leads c = λ line is.
@@ -47,7 +47,7 @@ returns-in-End-clause-leads c = λ line is.
     let at = c.args.at in
     let x = c.index-lines-at.result in
     let same = sym (get_or_from_slice_get lines at line x is) ∙ sym c.index-lines-at.is ∙ c.in-End.is in
-    subst (λ (l : Stmt). Leads (script.execute c.args.program.now.functions c.args.depth l (drop (at + 1) lines) (state_of lines c.args.state.now)) lines at c.args.ask.now (state_of lines c.end_block.new.state) c.end_block.result)
+    subst (λ (l : Stmt). HasFlow (script.execute c.args.program.now.functions c.args.depth l (drop (at + 1) lines) (state_of lines c.args.state.now)) lines at c.args.ask.now (state_of lines c.end_block.new.state) c.end_block.result)
     (sym same) (c.end_block.ensures.leads at c.args.ask.now)
 
 pub returns-in-Return-clause-leads : goal.returns-in-Return-clause-leads
@@ -56,8 +56,8 @@ returns-in-Return-clause-leads c = λ line is.
     let at = c.args.at in
     let x = c.index-lines-at.result in
     let same = sym (get_or_from_slice_get lines at line x is) ∙ sym c.index-lines-at.is ∙ c.in-Return.is in
-    subst (λ (l : Stmt). Leads (script.execute c.args.program.now.functions c.args.depth l (drop (at + 1) lines) (state_of lines c.args.state.now)) lines at c.give_back.new.ask (state_of lines c.args.state.now) c.give_back.result)
-    (sym same) (c.give_back.ensures.leads lines at)
+    subst (λ (l : Stmt). HasFlow (script.execute c.args.program.now.functions c.args.depth l (drop (at + 1) lines) (state_of lines c.args.state.now)) lines at c.return_value.new.ask (state_of lines c.args.state.now) c.return_value.result)
+    (sym same) (c.return_value.ensures.leads lines at)
 
 pub returns-in_default : goal.returns-in_default
 returns-in_default c = record {
@@ -66,10 +66,10 @@ returns-in_default c = record {
       let at = c.args.at in
       let x = c.index-lines-at.result in
       let same = sym (get_or_from_slice_get lines at line x is) ∙ sym c.index-lines-at.is in
-      subst (λ (l : Stmt). Leads (script.execute c.args.program.now.functions c.args.depth l (drop (at + 1) lines) (state_of lines c.args.state.now)) lines at c.stop.new.ask (state_of lines c.args.state.now) c.stop.result)
-      (sym same) (c.stop.ensures.leads lines at (is ∙ ap Some same));
-  small = c.stop.ensures.small;
-  enters = c.stop.ensures.enters _;
+      subst (λ (l : Stmt). HasFlow (script.execute c.args.program.now.functions c.args.depth l (drop (at + 1) lines) (state_of lines c.args.state.now)) lines at c.ask_operation.new.ask (state_of lines c.args.state.now) c.ask_operation.result)
+      (sym same) (c.ask_operation.ensures.leads lines at (is ∙ ap Some same));
+  small = c.ask_operation.ensures.small;
+  enters = c.ask_operation.ensures.enters _;
 }
 
 pub returns-in-Let-clause-enters : goal.returns-in-Let-clause-enters
@@ -79,4 +79,4 @@ pub returns-in-If-clause-enters : goal.returns-in-If-clause-enters
 returns-in-If-clause-enters c = c.branch-alloc.ensures.enters (length c.args.lines.now)
 
 pub returns-in-Return-clause-enters : goal.returns-in-Return-clause-enters
-returns-in-Return-clause-enters c = c.give_back.ensures.enters (length c.args.lines.now)
+returns-in-Return-clause-enters c = c.return_value.ensures.enters (length c.args.lines.now)

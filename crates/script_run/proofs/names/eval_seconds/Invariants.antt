@@ -1,7 +1,7 @@
 use Rattle.std.proofs.Common.{◌≡◌, drop}
-use Rattle.script_run.specs.Pairs.{each_of, second_of}
+use Rattle.script_run.specs.Pairs.{try_map, second_of}
 use Rattle.script_run.proofs.Each.{behind_list}
 use Rattle.script_run.proofs.names.eval_seconds.Given as goal
 
 abbrev pub invariant-pairs : goal.invariant-pairs
-invariant-pairs l = behind_list l.values (each_of (second_of l.variables) (drop l.pair-index l.pairs)) ≡ each_of (second_of l.variables) l.pairs
+invariant-pairs l = behind_list l.values (try_map (second_of l.variables) (drop l.pair-index l.pairs)) ≡ try_map (second_of l.variables) l.pairs

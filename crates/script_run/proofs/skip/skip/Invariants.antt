@@ -8,4 +8,4 @@ use Rattle.script_run.proofs.skip.skip.Given as goal
 abbrev pub invariant-lines : goal.invariant-lines
 invariant-lines l =
     (l.inner + l.start ≤ l.at)
-    × ((functions : List Function) (depth : ℕ) (enter : List Stmt → script.State → script.Standing) → script.go functions depth enter (Some l.inner) (drop l.at l.lines) (state_of l.lines l.state) ≡ script.go functions depth enter (Some 0) (drop l.start l.lines) (state_of l.lines l.fn.state))
+    × ((functions : List Function) (depth : ℕ) (enter : List Stmt → script.State → script.StopPoint) → script.execute_from functions depth enter (Some l.inner) (drop l.at l.lines) (state_of l.lines l.state) ≡ script.execute_from functions depth enter (Some 0) (drop l.start l.lines) (state_of l.lines l.fn.state))

@@ -17,16 +17,16 @@ returns-then-entry-eq0 c =
       | inr p ↦ inr (omega (arith, plain ends (entry - 1), ap (λ k. get_or ends (k - 1) 0) p.1))
     ])
 
-pub place_in-requires-clause-long : goal.place_in-requires-clause-long
-place_in-requires-clause-long c =
+pub location_in-requires-clause-long : goal.location_in-requires-clause-long
+location_in-requires-clause-long c =
     let w = c.self.inside.shards in
     let counts = c.as_slice-counts.result.now in
     let ends = c.as_slice-ends.result.now in
     let h = moved w c.self.inside.counts.items c.self.inside.ends.items counts ends c.as_slice-counts.ensures.value c.as_slice-ends.ensures.value c.self.invariant in
     rows_long_at w c.first_at_least-entry.result counts ends c.row_of-old.result.now c.row_of-new.result.now h c.row_of-old.ensures c.row_of-new.ensures (omega arith) (omega arith)
 
-pub place_in-requires-clause-grown : goal.place_in-requires-clause-grown
-place_in-requires-clause-grown c =
+pub location_in-requires-clause-grown : goal.location_in-requires-clause-grown
+location_in-requires-clause-grown c =
     let w = c.self.inside.shards in
     let counts = c.as_slice-counts.result.now in
     let ends = c.as_slice-ends.result.now in
@@ -43,6 +43,6 @@ returns c =
     let entry = c.first_at_least-entry.result in
     let is = locate_is w counts ends h c.args.seq.0 entry c.args.self.now view (omega arith) (omega arith) (omega (arith, plain ends (entry - 1))) (omega (arith, plain ends entry)) in
     λ shards are.
-    c.place_in.ensures
+    c.location_in.ensures
     ∙ place_at w entry (c.args.seq.0 - get_or ends (entry - 1) 0) counts ends c.row_of-old.result.now c.row_of-new.result.now h c.row_of-old.ensures c.row_of-new.ensures (omega arith)
     ∙ is shards are

@@ -24,24 +24,24 @@ returns-then-entry-eq0 c =
       | inr p ↦ inr (omega (arith, ap (λ k. get_or counts ((k - 1) * w + column) 0) p.1))
     ])
 
-pub number_in-requires-clause-long : goal.number_in-requires-clause-long
-number_in-requires-clause-long c =
+pub seqnum_in-requires-clause-long : goal.seqnum_in-requires-clause-long
+seqnum_in-requires-clause-long c =
     let w = c.self.inside.shards in
     let counts = c.as_slice-counts.result.now in
     let ends = c.as_slice-ends.result.now in
     let h = moved w c.self.inside.counts.items c.self.inside.ends.items counts ends c.as_slice-counts.ensures.value c.as_slice-ends.ensures.value c.self.invariant in
     rows_long_at w c.first_at_least-entry.result counts ends c.row_of-old.result.now c.row_of-new.result.now h c.row_of-old.ensures c.row_of-new.ensures (omega arith) (omega arith)
 
-pub number_in-requires-clause-grown : goal.number_in-requires-clause-grown
-number_in-requires-clause-grown c =
+pub seqnum_in-requires-clause-grown : goal.seqnum_in-requires-clause-grown
+seqnum_in-requires-clause-grown c =
     let w = c.self.inside.shards in
     let counts = c.as_slice-counts.result.now in
     let ends = c.as_slice-ends.result.now in
     let h = moved w c.self.inside.counts.items c.self.inside.ends.items counts ends c.as_slice-counts.ensures.value c.as_slice-ends.ensures.value c.self.invariant in
     rows_grown_at w c.first_at_least-entry.result counts ends c.row_of-old.result.now c.row_of-new.result.now h c.row_of-old.ensures c.row_of-new.ensures (omega arith) (omega arith)
 
-pub number_in-requires-clause-fits : goal.number_in-requires-clause-fits
-number_in-requires-clause-fits c =
+pub seqnum_in-requires-clause-fits : goal.seqnum_in-requires-clause-fits
+seqnum_in-requires-clause-fits c =
     let w = c.self.inside.shards in
     let counts = c.as_slice-counts.result.now in
     let ends = c.as_slice-ends.result.now in
@@ -62,6 +62,6 @@ returns c =
     let is = seq_is w counts ends h c.args.shard c.args.local entry c.args.self.now view (omega arith) (omega arith) (omega arith) (omega arith)
     (c.first_at_least-entry.ensures.before (omega arith)) (c.first_at_least-entry.ensures.at (omega arith)) in
     λ shards are.
-    ap Some (c.number_in.ensures
+    ap Some (c.seqnum_in.ensures
     ∙ ap (λ n. get_or ends (entry - 1) 0 + n) (number_at w entry (c.args.shard - 1) c.args.local counts c.row_of-old.result.now c.row_of-new.result.now c.row_of-old.ensures c.row_of-new.ensures))
     ∙ is shards are

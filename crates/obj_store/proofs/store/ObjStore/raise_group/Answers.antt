@@ -3,7 +3,7 @@ use Rattle.std.proofs.lemmas.Bool.Decides.{nat_tests}
 use Rattle.std.specs.List.{IsDistinct}
 use Rattle.std.specs.Str.{bytes_eq}
 use Rattle.boki_model.specs.Maps.{has}
-use Rattle.obj_store.specs.Kept.{Kept, KeptObject}
+use Rattle.obj_store.specs.Kept.{StoreState, KeptObject}
 use Rattle.obj_store.specs.StandsFor.{StandsFor}
 use Rattle.obj_store.specs.Steps.{raised_to}
 use Rattle.obj_store.proofs.Fences.{fences_raised}
@@ -11,7 +11,7 @@ use Rattle.obj_store.proofs.store.ObjStore.raise_group.Goals as goal
 
 pub returns-clause-ok : goal.returns-clause-ok
 returns-clause-ok c = λ m records stands.
-    let S = subst (λ (k : Kept). StandsFor k m records) (sym c.self.view_is) stands in
+    let S = subst (λ (k : StoreState). StandsFor k m records) (sym c.self.view_is) stands in
     let low : ltb c.args.at.0 m.floor ≡ false = (let e = S.floor in grind (arith, nat_tests)) in
     let wide = c.in_ok-ensure_all.ensures.same in
     let up = c.raise_all.ensures in (

@@ -1,6 +1,0 @@
-use Rattle.boki_cli.proofs.DueLemmas.{Grows-append}
-use Rattle.boki_cli.proofs.run.run_machine.Goals as goal
-
-pub returns-clause-grows : goal.returns-clause-grows
-returns-clause-grows g c =
-    Grows-append _ (g.K.Sink.held c.run_items.new.sink) _ c.run_items.ensures.grows c.tell_report.ensures.grows

@@ -1,5 +1,0 @@
-use Rattle.boki_model.proofs.Cuts.{adds_just_new}
-use Rattle.boki_model.proofs.order_laws.cuts_keep_places.Goals as goal
-
-pub returns : goal.returns
-returns g c = adds_just_new

@@ -1,0 +1,12 @@
+pub mod AllWords
+pub mod Dashes
+pub mod Entering
+pub mod Flags
+pub mod Hyphens
+pub mod Leaf
+pub mod MakeWalk
+pub mod MakeWords
+pub mod Outcomes
+pub mod Range
+pub mod RunWalk
+pub mod RunWords

@@ -1,0 +1,92 @@
+-- An engine restarts: its auxiliary data and its attempts are gone, and a new attempt goes on.
+-- tools/rows.py makes this file from examples/restarted_engine.plan and .out.
+use Rattle.std.specs.Prelude.{pos, List, [], ◌∷◌, None, codes}
+use Rattle.lb_base.specs.declared.value.Value.TheVariants.{Int, Text}
+use Rattle.lb_base.specs.declared.value.Mode.TheVariants.{R}
+use Rattle.lb_base.specs.declared.value.Outcome.TheVariants.{Good}
+use Rattle.boki_types.specs.declared.plan.Plan.{Plan}
+use Rattle.boki_types.specs.declared.event.Event.{Event}
+use Rattle.boki_types.specs.declared.line.Line.{Line}
+use Rattle.boki_types.specs.declared.turn.Report.{Report}
+use Rattle.boki_machine.specs.Step.{seqnum}
+use Rattle.computed_examples.specs.Computed.{Computes, sent, one_by_one}
+use Rattle.computed_examples.specs.Functions.{set_function, get_function, move_function, two_function, parent_function, put_function, take_function, bump_function, add_function, spin_function}
+use Rattle.boki_types.specs.declared.event.Event.TheVariants as event
+use Rattle.boki_types.specs.declared.line.Line.TheVariants as line
+use Rattle.boki_types.specs.declared.line.StepLine.TheVariants as step
+use Rattle.boki_types.specs.declared.line.Miss.TheVariants as miss
+use Rattle.boki_types.specs.declared.turn.Turn.TheVariants as turn
+
+abbrev pub events : List Event
+events =
+    event.Submit 1 1 0 (Text (codes "x") ∷ Int (pos 4) ∷ []) ∷
+    event.Sync ∷
+    event.Start 1 (1 ∷ []) 1 ∷
+    event.Step 1 ∷
+    event.Sync ∷
+    event.SetAux 1 (seqnum 2) (codes "note") ∷
+    event.GetAux 1 (seqnum 2) ∷
+    event.SetAux 1 (seqnum 3) (codes "no") ∷
+    event.Restart 1 ∷
+    event.GetAux 1 (seqnum 2) ∷
+    event.Step 1 ∷
+    event.Start 2 (1 ∷ []) 1 ∷
+    event.Step 2 ∷
+    event.Catch 1 ∷
+    event.Step 2 ∷
+    event.Miss 2 ∷
+    event.Step 2 ∷
+    event.Step 2 ∷
+    event.Sync ∷
+    event.Step 2 ∷
+    event.Step 2 ∷
+    event.Sync ∷
+    event.Step 2 ∷
+    []
+
+abbrev pub plan : Plan
+plan = record {
+  setup = record { shards = 1; replicas = 1; engines = 1; mode = R; newer = None };
+  objects = [];
+  program = record { functions = set_function ∷ get_function ∷ move_function ∷ two_function ∷ parent_function ∷ put_function ∷ take_function ∷ bump_function ∷ add_function ∷ spin_function ∷ [] };
+  items = one_by_one events;
+}
+
+abbrev pub lines : List Line
+lines =
+    line.Sent (sent 1 1) ∷
+    line.Sync 1 ∷
+    line.Started ∷
+    line.Step (step.SendInit (sent 1 2)) ∷
+    line.Sync 2 ∷
+    line.Set ∷
+    line.Aux (codes "note") ∷
+    line.Absent ∷
+    line.Restarted 1 ∷
+    line.Absent ∷
+    line.Step step.Idle ∷
+    line.Started ∷
+    line.Step step.WaitsCall ∷
+    line.At 2 ∷
+    line.Step (step.AdoptInit (seqnum 2) R) ∷
+    line.Missed miss.Store ∷
+    line.Step (step.Store (codes "x") (Int (pos 4))) ∷
+    line.Step (step.SendWrite (sent 1 3) (codes "x") None) ∷
+    line.Sync 3 ∷
+    line.Step (step.AdoptWrite (seqnum 3) (codes "x")) ∷
+    line.Step (step.SendFinish (sent 1 4) (Good (Int (pos 4)))) ∷
+    line.Sync 4 ∷
+    line.Step (step.Over (Good (Int (pos 4)))) ∷
+    []
+
+abbrev pub report : Report
+report = record {
+  turns = turn.Submit 1 0 (Text (codes "x") ∷ Int (pos 4) ∷ []) ∷ turn.Go (1 ∷ []) 0 ∷ turn.Go (1 ∷ []) 1 ∷ turn.End (1 ∷ []) ∷ [];
+  results = (1 ∷ [], Good (Int (pos 4))) ∷ [];
+  objects = (codes "x", Int (pos 4)) ∷ [];
+  queues = [];
+  stores = [];
+}
+
+abbrev pub RestartedEngineRun : Type 0
+RestartedEngineRun = Computes plan lines report

@@ -1,0 +1,86 @@
+-- Two pops of a queue with one value.
+-- tools/rows.py makes this file from examples/two_pops.plan and .out.
+use Rattle.std.specs.Prelude.{pos, List, [], ◌∷◌, None, codes}
+use Rattle.lb_base.specs.declared.value.Value.TheVariants.{Int, Text, Nothing}
+use Rattle.lb_base.specs.declared.value.Mode.TheVariants.{R}
+use Rattle.boki_types.specs.declared.plan.Plan.{Plan}
+use Rattle.boki_types.specs.declared.event.Event.{Event}
+use Rattle.boki_types.specs.declared.line.Line.{Line}
+use Rattle.boki_types.specs.declared.turn.Report.{Report}
+use Rattle.boki_machine.specs.Step.{seqnum}
+use Rattle.computed_examples.specs.Computed.{Computes, sent, one_by_one}
+use Rattle.computed_examples.specs.Functions.{set_function, get_function, move_function, two_function, parent_function, put_function, take_function, bump_function, add_function, spin_function}
+use Rattle.boki_types.specs.declared.event.Event.TheVariants as event
+use Rattle.boki_types.specs.declared.line.Line.TheVariants as line
+use Rattle.boki_types.specs.declared.line.StepLine.TheVariants as step
+use Rattle.boki_types.specs.declared.turn.Turn.TheVariants as turn
+
+abbrev pub events : List Event
+events =
+    event.Submit 1 1 5 (Text (codes "q") ∷ Int (pos 8) ∷ []) ∷
+    event.Submit 1 2 6 (Text (codes "q") ∷ []) ∷
+    event.Submit 1 3 6 (Text (codes "q") ∷ []) ∷
+    event.Sync ∷
+    event.Start 1 (1 ∷ []) 1 ∷
+    event.Start 2 (2 ∷ []) 1 ∷
+    event.Start 3 (3 ∷ []) 1 ∷
+    event.Step 1 ∷
+    event.Step 2 ∷
+    event.Step 3 ∷
+    event.Sync ∷
+    event.Step 1 ∷
+    event.Step 2 ∷
+    event.Step 3 ∷
+    event.Step 1 ∷
+    event.Step 3 ∷
+    event.Step 2 ∷
+    event.Sync ∷
+    event.Step 2 ∷
+    event.Step 3 ∷
+    event.Step 1 ∷
+    []
+
+abbrev pub plan : Plan
+plan = record {
+  setup = record { shards = 1; replicas = 1; engines = 1; mode = R; newer = None };
+  objects = [];
+  program = record { functions = set_function ∷ get_function ∷ move_function ∷ two_function ∷ parent_function ∷ put_function ∷ take_function ∷ bump_function ∷ add_function ∷ spin_function ∷ [] };
+  items = one_by_one events;
+}
+
+abbrev pub lines : List Line
+lines =
+    line.Sent (sent 1 1) ∷
+    line.Sent (sent 1 2) ∷
+    line.Sent (sent 1 3) ∷
+    line.Sync 3 ∷
+    line.Started ∷
+    line.Started ∷
+    line.Started ∷
+    line.Step (step.SendInit (sent 1 4)) ∷
+    line.Step (step.SendInit (sent 1 5)) ∷
+    line.Step (step.SendInit (sent 1 6)) ∷
+    line.Sync 6 ∷
+    line.Step (step.AdoptInit (seqnum 4) R) ∷
+    line.Step (step.AdoptInit (seqnum 5) R) ∷
+    line.Step (step.AdoptInit (seqnum 6) R) ∷
+    line.Step (step.SendPush (sent 1 7) (codes "q") (Int (pos 8))) ∷
+    line.Step (step.SendPop (sent 1 8) (codes "q")) ∷
+    line.Step (step.SendPop (sent 1 9) (codes "q")) ∷
+    line.Sync 9 ∷
+    line.Step (step.AdoptPop (seqnum 9) (codes "q") Nothing) ∷
+    line.Step (step.AdoptPop (seqnum 8) (codes "q") (Int (pos 8))) ∷
+    line.Step (step.AdoptPush (seqnum 7) (codes "q")) ∷
+    []
+
+abbrev pub report : Report
+report = record {
+  turns = turn.Submit 1 5 (Text (codes "q") ∷ Int (pos 8) ∷ []) ∷ turn.Submit 2 6 (Text (codes "q") ∷ []) ∷ turn.Submit 3 6 (Text (codes "q") ∷ []) ∷ turn.Go (1 ∷ []) 0 ∷ turn.Go (2 ∷ []) 0 ∷ turn.Go (3 ∷ []) 0 ∷ turn.Go (1 ∷ []) 1 ∷ turn.Go (3 ∷ []) 1 ∷ turn.Go (2 ∷ []) 1 ∷ [];
+  results = [];
+  objects = [];
+  queues = (codes "q", []) ∷ [];
+  stores = [];
+}
+
+abbrev pub TwoPopsRun : Type 0
+TwoPopsRun = Computes plan lines report

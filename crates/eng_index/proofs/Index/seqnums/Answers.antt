@@ -1,0 +1,7 @@
+use Rattle.std.proofs.Common.{sym, ap, ◌∙◌}
+use Rattle.eng_index.specs.IndexState.{seqnums_of}
+use Rattle.eng_index.proofs.Maps.{list_seen}
+use Rattle.eng_index.proofs.Index.seqnums.Goals as goal
+
+pub returns : goal.returns
+returns c = λ log shows. c.of_tag.ensures ∙ sym (list_seen c.args.tag.0 c.self.inside.lists.entries) ∙ ap (seqnums_of c.args.tag.0) c.self.view_is ∙ shows.lists c.args.tag.0

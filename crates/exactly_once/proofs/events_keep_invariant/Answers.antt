@@ -1,0 +1,8 @@
+use Rattle.exactly_once.proofs.OldVersions.VersionKeeps.{versions_keep}
+use Rattle.exactly_once.proofs.Attempts.StepKeeps.{moves_keep}
+use Rattle.exactly_once.proofs.Attempts.LostAnswerKeeps.{misses_keep}
+use Rattle.exactly_once.proofs.Machines.EventKeeps.{events_keep}
+use Rattle.exactly_once.proofs.events_keep_invariant.Goals as goal
+
+pub returns : goal.returns
+returns c = events_keep (moves_keep versions_keep) (misses_keep versions_keep)

@@ -1,0 +1,2 @@
+-- The central theorem. It rests on `boki_model` and `boki_machine`, and on nothing else of this crate.
+pub mod ExactlyOnce

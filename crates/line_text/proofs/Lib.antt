@@ -1,0 +1,12 @@
+pub mod SplitLemmas
+pub mod SpanLemmas
+pub mod TokenLemmas
+pub mod LexLemmas
+pub mod LineLemmas
+pub mod ListLemmas
+pub mod DotLemmas
+pub mod LexedNames
+pub mod FieldsInRange
+pub mod Utf8Tokens
+pub mod LineInvariants
+pub mod ScanLemmas

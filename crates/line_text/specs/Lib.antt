@@ -1,0 +1,10 @@
+pub mod Splits
+pub mod Tokens
+pub mod Stream
+pub mod Lines
+pub mod Checks
+pub mod Readers
+pub mod Lists
+pub mod Fields
+pub mod Faults
+pub mod Texts

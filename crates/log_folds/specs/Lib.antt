@@ -1,0 +1,10 @@
+pub mod Contents
+pub mod Bounds
+pub mod Recorded
+pub mod Decoded
+pub mod ByTag
+pub mod Own
+pub mod Folds
+pub mod Opens
+pub mod Trims
+pub mod TurnsOneByOne

@@ -1,9 +1,0 @@
--- It comes out by computation.
-use Rattle.std.proofs.Common.{refl}
-use Rattle.boki_types.specs.declared.expr.Expr.TheBlock.{hidden-the_row-Expr-0}
-use denote.Hole.Carrier.{hidden}
-use Rattle.model_rows.proofs.restarted_engine.Goals as goal
-
-pub returns : goal.returns
-unfolding hidden-the_row-Expr-0 hidden
-returns c = record { valid = refl; lines = refl; report = refl; ideal = refl; decided = refl }

@@ -1,0 +1,3 @@
+pub mod Automaton
+pub mod Kept
+pub mod StandardNemeses

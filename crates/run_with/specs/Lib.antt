@@ -1,0 +1,9 @@
+pub mod Runs
+pub mod Written
+pub mod Laws
+pub mod Computed
+pub mod Killed
+pub mod Doubled
+pub mod Refused
+pub mod Reseeded
+pub mod Answers

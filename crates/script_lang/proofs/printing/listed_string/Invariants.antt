@@ -1,9 +1,0 @@
-use Rattle.std.proofs.Common.{◌≡◌, ◌++◌, drop}
-use Rattle.std.specs.String.{string_bytes}
-use Rattle.script_lang.specs.Printed.{listed}
-use Rattle.script_lang.proofs.PrintLemmas.{rest_listed}
-use Rattle.script_lang.proofs.printing.listed_string.Given as goal
-
-abbrev pub invariant-items : goal.invariant-items
-invariant-items g l =
-    string_bytes l.out ++ rest_listed l.first g.T.Piece.prints (drop l.item-index l.items) ≡ listed g.T.Piece.prints l.items

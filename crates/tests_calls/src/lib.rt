@@ -1,0 +1,9 @@
+//! Tests of the words and of the calls, through public calls alone.
+#![tactic(auto)]
+
+#[cfg(test)]
+mod calls;
+#[cfg(test)]
+mod devices;
+#[cfg(test)]
+mod words;

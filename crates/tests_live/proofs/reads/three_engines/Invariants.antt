@@ -1,0 +1,7 @@
+use Rattle.std.proofs.Common.{◌-◌}
+use Rattle.std.specs.Prelude.{slice_index}
+use Rattle.tests_live.proofs.reads.three_engines.Given as goal
+
+-- the log that was just opened
+abbrev pub ghosts-three_in_turn : goal.ghosts-three_in_turn
+ghosts-three_in_turn g a = record { book = a.opened.book; names = λ n. slice_index a.opened.names (n - 1); engines = a.opened.engines }
