@@ -1,11 +1,10 @@
-//! Laws of what invocations decide, apart from any code: the answers that `decided` gives are those of the script, and
-//! the end of an invocation is its last step record. Each function here has an empty body, and a law as its contract;
-//! the definitions are in `specs/`. Each law is there twice: of any machine that holds the invariant of `exactly_once`,
-//! and of the machine after any events that a plan can have.
+//! Laws of what invocations decide, apart from any code: the answers that `first_decided_answers` gives are those of
+//! the script. Each function here has an empty body, and a law as its contract; the definitions are in `specs/`. The
+//! law is there twice: of any machine that holds the invariant of `exactly_once`, and of the machine after any events
+//! that a plan can have.
 #![tactic(auto)]
 
 ghost use Rattle.exactly_once.specs.FurtherLaws.AnyEvents.{AfterEvents};
-ghost use Rattle.decided_laws.specs.Ends.{EndsAreLast};
 ghost use Rattle.decided_laws.specs.Laws.{WhereHolding};
 ghost use Rattle.decided_laws.specs.Scripts.{DecidedAreScripts};
 
@@ -19,15 +18,4 @@ pub fn decided_are_scripts()
 /// The same, wherever the invariant holds.
 pub fn holding_decide_scripts()
     ensures { WhereHolding DecidedAreScripts }
-{}
-
-/// **The end is last**, also within one cut: no live step record of an invocation stands above its Finish, and a step
-/// record that is ordered behind it is dead, whether or not an event came between.
-pub fn ends_are_last()
-    ensures { AfterEvents EndsAreLast }
-{}
-
-/// The same, wherever the invariant holds.
-pub fn holding_end_last()
-    ensures { WhereHolding EndsAreLast }
 {}
