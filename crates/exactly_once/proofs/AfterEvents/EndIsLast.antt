@@ -5,6 +5,7 @@ use Rattle.std.specs.Option.{option_or}
 use Rattle.std.proofs.lemmas.Bool.{cases_lt}
 use Rattle.lb_base.specs.declared.value.Outcome.{Outcome}
 use Rattle.boki_types.specs.declared.body.Body.{Body}
+use Rattle.boki_types.specs.declared.body.Body.TheVariants as b
 use Rattle.boki_types.specs.declared.plan.Setup.{Setup}
 use Rattle.boki_types.specs.declared.program.Function.{Function}
 use Rattle.boki_model.specs.Live.{LogRecord, Live, meets_condition, live}
@@ -43,12 +44,12 @@ live_on {A} (r ∷ newer) older = at (live_on newer older) (meets_condition r.co
     at tail false = tail
 
 -- where a record is the path's Finish, the path has ended
-pub finish_ends : (p : List ℕ) (xs : List (Live Body)) (x : Live Body) (rest : List (Live Body)) → Finishes p xs x → IsEnded p (x ∷ rest)
-finish_ends p xs x rest finish =
-    ap (λ o. is_some (option_or (result_of p rest) o)) (ap (finish_of p) finish.is_finish ∙ ap (λ t. cond t (Some finish.outcome) None) (same_itself p))
+pub finish_ends : (p : List ℕ) (i : ℕ) (outcome : Outcome) (x : Live Body) (rest : List (Live Body)) → x.holds ≡ b.Finish p i outcome → IsEnded p (x ∷ rest)
+finish_ends p i outcome x rest body =
+    ap (λ o. is_some (option_or (result_of p rest) o)) (ap (finish_of p) body ∙ ap (λ t. cond t (Some outcome) None) (same_itself p))
     ∙ at (result_of p rest)
   where
-    at : (o : Option Outcome) → is_some (option_or o (Some finish.outcome)) ≡ true
+    at : (o : Option Outcome) → is_some (option_or o (Some outcome)) ≡ true
     at None = refl
     at (Some r) = refl
 
@@ -84,7 +85,7 @@ module _ (setup : Setup) (fs : List Function) (w : World) (holds : InvariantHold
           let bx = behind x xs finish.among in
           let by = behind y xs among in
           let t = tails_by_seq x y bx.rest by.rest (length w.log) xs (under_tail xs (length w.log) now (live_under w.log) part) bx.tail by.tail lt in
-          unended y by.rest i (longer by.tail part) step (ended_later p (x ∷ bx.rest) by.rest t (finish_ends p xs x bx.rest finish))
+          unended y by.rest i (longer by.tail part) step (ended_later p (x ∷ bx.rest) by.rest t (finish_ends p finish.index finish.outcome x bx.rest finish.is_finish))
 
   dead_behind : (newer older : List (LogRecord Body)) (r : LogRecord Body) (i : ℕ) → w.log ≡ newer ++ r ∷ older → IsEnded p (live older) → step_of r.holds ≡ Some (p, i) → meets_condition r.condition (live older) ≡ false
   dead_behind newer older r i is ended step = at (meets_condition r.condition (live older)) refl
