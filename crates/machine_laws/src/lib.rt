@@ -19,6 +19,7 @@ ghost use Rattle.machine_laws.specs.Own.{HoldingAreWellFormed};
 ghost use Rattle.machine_laws.specs.Scripts.{DecidedAreScripts};
 ghost use Rattle.machine_laws.specs.Settled.{SettledIsBelow};
 ghost use Rattle.machine_laws.specs.Texts.{OpeningIsText, EventsKeepTexts, EnginesSeeTexts};
+ghost use Rattle.machine_laws.specs.Trims.{OpeningIsChosen, EventsKeepChosen, ChosenCount, EveryTrimCounts};
 ghost use Rattle.machine_laws.specs.Views.{ViewsReadTheWhole, RunningSeeTheirCursor};
 
 /// An attempt that is found under a number is one of the machine's.
@@ -115,4 +116,24 @@ pub fn decided_are_scripts()
 /// The same, wherever the invariant holds.
 pub fn holding_decide_scripts()
     ensures { WhereHolding DecidedAreScripts }
+{}
+
+/// At the opening there is no Trim.
+pub fn opening_is_chosen()
+    ensures { OpeningIsChosen }
+{}
+
+/// Every event keeps it that the bound of each Trim was chosen by an engine's view.
+pub fn events_keep_chosen()
+    ensures { EventsKeepChosen }
+{}
+
+/// So each Trim counts, in the whole list and in what an engine sees: the floor is the greatest of their bounds.
+pub fn chosen_count()
+    ensures { ChosenCount }
+{}
+
+/// **Every Trim counts**, wherever it was ordered, in the machine after any events that a plan can have.
+pub fn trims_count()
+    ensures { AfterEvents EveryTrimCounts }
 {}
