@@ -1,6 +1,6 @@
 -- Every Trim of a machine counts.
 use Rattle.std.proofs.Common.{◌≡◌, ℕ, zero, suc, ◌-◌, ◌≤◌, max, Bool, true, false, cond, leb, ◌&&◌, List, [], ◌∷◌, ◌++◌, length, Option, Some, None, refl, sym, ap, ◌∙◌, subst, arith}
-use Rattle.std.specs.Prelude.{replicate, slice_index, IsTrue}
+use Rattle.std.specs.Prelude.{is_some, replicate, slice_index, IsTrue}
 use Rattle.std.specs.List.{AllByRecursion}
 use Rattle.boki_types.specs.declared.body.Body.{Body}
 use Rattle.boki_types.specs.declared.body.Body.TheVariants as b
@@ -10,6 +10,7 @@ use Rattle.boki_types.specs.declared.line.Line.TheVariants as line
 use Rattle.boki_types.specs.declared.plan.Setup.{Setup}
 use Rattle.boki_types.specs.declared.program.Function.{Function}
 use Rattle.boki_model.specs.Live.{LogRecord, Live, meets_condition, live, upto}
+use Rattle.boki_model.specs.Bodies.{step_of}
 use Rattle.boki_model.specs.Order.{entry_records, last_vector, order, progress}
 use Rattle.boki_model.specs.OrderLaws.{add_to}
 use Rattle.boki_model.specs.Floor.{counted_trim, floor, trim_limit}
@@ -27,11 +28,11 @@ use Rattle.exactly_once.proofs.Log.ListElements.{each_weaker}
 use Rattle.exactly_once.proofs.Machines.ExactlyOnce.{opens}
 use Rattle.exactly_once.proofs.Invocations.InitAndCursor.{upto_tail}
 use Rattle.exactly_once.proofs.Invariant.OrderedRecord.{among_each}
+use Rattle.exactly_once.proofs.Machines.SentRecords.{SendsStep, step_sends}
 use Rattle.exactly_once.proofs.Machines.ShardsAndVectors.{each_add, added_among}
 use Rattle.switch_laws.proofs.Ended.{longer, upto_since}
 use Rattle.switch_laws.proofs.Trims.{trimmed_counts}
-use Rattle.trim_laws.specs.Trims.{bound_of, greatest_bound, AllCount, IsChosen, ChoseBound, TrimsAreChosen, OpeningIsChosen, EventsKeepChosen, FloorIsGreatest, ChosenCount, EveryTrimCounts}
-use Rattle.trim_laws.proofs.Sends.{SomeChosen, step_sends}
+use Rattle.machine_laws.specs.Trims.{bound_of, greatest_bound, AllCount, IsChosen, ChoseBound, TrimsAreChosen, OpeningIsChosen, EventsKeepChosen, FloorIsGreatest, ChosenCount, EveryTrimCounts}
 
 -- A bound that was chosen stays so, while the list goes on.
 
@@ -63,6 +64,20 @@ all_count (r ∷ since) log each count = at (meets_condition r.condition (live (
     at : (t : Bool) → AllCount now → AllCount (cond t (record { seq = suc (length (since ++ log)); tags = r.tags; holds = r.holds } ∷ now) now)
     at true rest = (bound_counts since log r.holds each.0, rest)
     at false rest = rest
+
+-- What a step sends is no Trim.
+
+abbrev SomeChosen : List (LogRecord Body) → Option (LogRecord Body) → Type 0
+SomeChosen log None = Unit {0}
+SomeChosen log (Some r) = ChoseBound log r.holds
+
+step_chose : (log : List (LogRecord Body)) (body : Body) → is_some (step_of body) ≡ true → ChoseBound log body
+step_chose log (b.Trim w) step = let no_way : false ≡ true = step in cc
+step_chose log _ step = tt
+
+sent_chose : (log : List (LogRecord Body)) (r : Option (LogRecord Body)) → SendsStep r → SomeChosen log r
+sent_chose log None sends = tt
+sent_chose log (Some r) sends = step_chose log r.holds sends
 
 -- The events.
 
@@ -133,7 +148,7 @@ module _ (setup : Setup) (fs : List Function) (m : Machine) (good : MachineHolds
   steps_chosen : (n : ℕ) (a : Option Attempt) → TrimsAreChosen (step_attempt setup fs m n a).machine
   steps_chosen n None = are
   steps_chosen n (Some a) =
-      moved_chosen n a.engine (step setup fs m.store (view m a.engine) (next_sent setup m a.engine) a) (step_sends (log m) setup fs a m.store (view m a.engine) (next_sent setup m a.engine))
+      moved_chosen n a.engine (step setup fs m.store (view m a.engine) (next_sent setup m a.engine) a) (sent_chose (log m) _ (step_sends setup fs a m.store (view m a.engine) (next_sent setup m a.engine)))
 
   misses_chosen : (a : Option Attempt) → TrimsAreChosen (miss_attempt setup fs m a).machine
   misses_chosen None = are

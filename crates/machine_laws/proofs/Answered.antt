@@ -26,7 +26,7 @@ use Rattle.exactly_once.proofs.Invocations.NextRecord.{stands, Does, does, apart
 use Rattle.exactly_once.proofs.Invocations.FreeAnswers.{IsRead, reads, reads_all, is_read}
 use Rattle.exactly_once.proofs.Asking.OpenTransactions.{same_step}
 use Rattle.script_run.specs.Answering.{IsOfKind}
-use Rattle.decided_laws.specs.Scripts.{AnswersAsk, AnswerInOrder, RecordsAsk}
+use Rattle.machine_laws.specs.Scripts.{AnswersAsk, AnswerInOrder, RecordsAsk}
 
 -- an answer of what is asked
 pub record Fitting (ask : Option Ask) (answer : Answer) : Type 0 where

@@ -1,5 +1,5 @@
 -- Each live step record of an invocation comes where its script has come to.
-use Rattle.std.proofs.Common.{◌≡◌, ℕ, zero, suc, ◌+◌, ◌-◌, ◌≤◌, true, false, cond, List, [], ◌∷◌, length, Option, Some, None, refl, sym, ap, ◌∙◌, subst, arith}
+use Rattle.std.proofs.Common.{◌≡◌, ℕ, zero, suc, ◌+◌, ◌-◌, ◌≤◌, Bool, true, false, cond, List, [], ◌∷◌, length, Option, Some, None, refl, sym, ap, ◌∙◌, subst, arith}
 use Rattle.std.specs.Prelude.{drop, is_some}
 use Rattle.lb_base.specs.declared.value.Mode.{Mode}
 use Rattle.lb_base.specs.declared.value.Mode.TheVariants.{R, W, T}
@@ -13,14 +13,11 @@ use Rattle.boki_types.specs.declared.plan.Setup.{Setup}
 use Rattle.boki_types.specs.declared.program.Function.{Function}
 use Rattle.boki_model.specs.Live.{Live, upto}
 use Rattle.boki_model.specs.Bodies.{step_of}
-use Rattle.boki_model.specs.Modes.{result_of, finish_of}
-use Rattle.std.specs.Option.{option_or}
 use Rattle.boki_model.specs.Writes.{Store, version_value, versions_at}
 use Rattle.boki_model.proofs.Logs.{upto-upto, upto_skip}
 use Rattle.boki_machine.specs.Decided.{InvocationState, asked_at, free_answer, add_answer, own_answer, with_free_answers, oldest, first_decided_answers}
 use Rattle.exactly_once.specs.Induction.SoundLogs.{free_operations_to, Reaches, Asks, AllMayFollow}
 use Rattle.boki_machine.specs.Step.{records_below}
-use Rattle.exactly_once.specs.FurtherLaws.ModesAndFloors.{IsEnded}
 use Rattle.exactly_once.specs.Induction.Invariant.{World, records, InvariantHolds}
 use Rattle.exactly_once.specs.FurtherLaws.Words.{values_only}
 use Rattle.exactly_once.proofs.Log.HistoryTails.{Tail, here, there, shorter, longer}
@@ -32,31 +29,16 @@ use Rattle.exactly_once.proofs.Invocations.InitAndCursor.{upto_at, fit_tail, sta
 use Rattle.exactly_once.proofs.Asking.OpenTransactions.{same_step}
 use Rattle.exactly_once.proofs.Asking.FreeAtCursor.{no_free, IsThere, is_there, none_next}
 use Rattle.exactly_once.proofs.AfterEvents.CountedOperations.{may, is_operation}
-use Rattle.exactly_once.proofs.AfterEvents.DuplicatesAgree.{oldest_tail}
-use Rattle.decided_laws.specs.Scripts.{RecordsAsk, IsReached}
-use Rattle.decided_laws.proofs.Answered.{is_asked}
+use Rattle.exactly_once.proofs.AfterEvents.DuplicatesAgree.{none_dropped, tail_none, tail_shorter, and_tail, oldest_tail, decided_begun, unbegun_decides}
+use Rattle.exactly_once.proofs.AfterEvents.EndIsLast.{finish_ends}
+use Rattle.machine_laws.specs.Scripts.{RecordsAsk, IsReached}
+use Rattle.machine_laws.proofs.Answered.{is_asked}
 
 -- The first answers.
 
 module _ {A : Type 0} where
-  none_dropped : (l : List A) → drop 0 l ≡ l
-  none_dropped [] = refl
-  none_dropped (x ∷ l) = refl
-
   oldest_all : (n : ℕ) (l : List A) → length l ≤ n → oldest n l ≡ l
   oldest_all n l le = ap (λ m. drop m l) (let e : length l - n ≡ 0 = omega (arith, le) in e) ∙ none_dropped l
-
-  tail_none : (l : List A) → Tail [] l
-  tail_none [] = here
-  tail_none (x ∷ l) = there (tail_none l)
-
-  tail_length : (us vs : List A) → Tail us vs → length us ≤ length vs
-  tail_length us vs here = omega arith
-  tail_length us (v ∷ vs) (there t) = let le = tail_length us vs t in omega (arith, le)
-
-and_tail : (answer : Option Answer) (l : List Answer) → Tail l (add_answer answer l)
-and_tail None l = here
-and_tail (Some x) l = there here
 
 module _ (fs : List Function) (store : Store) (xs : List (Live Body)) (p : List ℕ) (st : InvocationState) where
   more_tail : (n : ℕ) → Tail st.answers (with_free_answers fs store xs p st n)
@@ -125,9 +107,10 @@ module _ (setup : Setup) (fs : List Function) (w : World) (holds : InvariantHold
       at ih next e (ends i outcome body is_done is) = on_to ih _ (e ∙ is) refl refl refl (more_tail fs store zs p was (free_operations_to i was))
 
   -- answers up to some moment are the first that are decided
-  decided_first : (us : List Answer) → Tail us at_now.answers → first_decided_answers setup fs store now p (length us) ≡ us
-  decided_first us t =
-      ap (λ n. oldest (length us) (with_free_answers fs store now p at_now n)) (let le = tail_length us at_now.answers t in let e : length us - length at_now.answers ≡ 0 = omega (arith, le) in e)
+  decided_first : at_now.begun ≡ true → (us : List Answer) → Tail us at_now.answers → first_decided_answers setup fs store now p (length us) ≡ us
+  decided_first begun us t =
+      decided_begun setup fs store now p (length us) begun
+      ∙ ap (λ n. oldest (length us) (with_free_answers fs store now p at_now n)) (let le = tail_shorter us at_now.answers t in let e : length us - length at_now.answers ≡ 0 = omega (arith, le) in e)
       ∙ oldest_tail us at_now.answers t
 
   module _ (x : Live Body) (xs : List (Live Body)) (t : Tail (x ∷ xs) now) (i : ℕ) (step : step_of x.holds ≡ Some (p, i)) where
@@ -200,6 +183,7 @@ module _ (setup : Setup) (fs : List Function) (w : World) (holds : InvariantHold
       all_below : (n : ℕ) → length l ≤ n → first_decided_answers setup fs store (records_below x.seq now) p n ≡ l
       all_below n le =
           ap (λ ys. first_decided_answers setup fs store ys p n) below_is
+          ∙ decided_begun setup fs store xs p n reaches.begun
           ∙ ap (oldest n) (no_more_from fs store xs p st l none (free_operations_to i st) (n - length st.answers) (let e = long in omega (arith, e, le)) refl)
           ∙ oldest_all n l le
 
@@ -218,31 +202,23 @@ module _ (setup : Setup) (fs : List Function) (w : World) (holds : InvariantHold
         tail_own own is = subst (λ us. Tail us at_now.answers) (behind_is ∙ ap (λ answer. add_answer answer l) is) later.tail
 
         first : first_decided_answers setup fs store now p (length l) ≡ l
-        first = decided_first l (longer (and_tail (own_answer store xs x.seq x.holds) l) (tail_own (own_answer store xs x.seq x.holds) refl))
+        first = decided_first later.begun l (longer (and_tail (own_answer store xs x.seq x.holds) l) (tail_own (own_answer store xs x.seq x.holds) refl))
 
         own : (answer : Answer) → own_answer store (records_below x.seq now) x.seq x.holds ≡ Some answer → first_decided_answers setup fs store now p i ≡ answer ∷ l
         own answer is =
             ap (first_decided_answers setup fs store now p) index
-            ∙ decided_first (answer ∷ l) (tail_own (Some answer) (ap (λ ys. own_answer store ys x.seq x.holds) (sym below_is) ∙ is))
+            ∙ decided_first later.begun (answer ∷ l) (tail_own (Some answer) (ap (λ ys. own_answer store ys x.seq x.holds) (sym below_is) ∙ is))
 
         -- behind a Finish nothing is decided
-        finish_ends : (outcome : Outcome) → x.holds ≡ b.Finish p i outcome → IsEnded p (x ∷ xs)
-        finish_ends outcome body =
-            ap (λ answer. is_some (option_or (result_of p xs) answer)) (ap (finish_of p) body ∙ ap (λ t. cond t (Some outcome) None) (same_itself p))
-            ∙ at (result_of p xs)
-          where
-            at : (result : Option Outcome) → is_some (option_or result (Some outcome)) ≡ true
-            at None = refl
-            at (Some r) = refl
-
         at_end : (outcome : Outcome) (n : ℕ) → x.holds ≡ b.Finish p i outcome → length l ≤ n → first_decided_answers setup fs store now p n ≡ l
         at_end outcome n body le =
-            ap (oldest n) (no_more_from fs store now p at_now l nothing 0 (n - length at_now.answers) (omega arith) answers_are)
+            decided_begun setup fs store now p n later.begun
+            ∙ ap (oldest n) (no_more_from fs store now p at_now l nothing 0 (n - length at_now.answers) (omega arith) answers_are)
             ∙ oldest_all n l le
           where
             answers_are : at_now.answers ≡ l
             answers_are =
-                ap (λ (st : InvocationState). st.answers) (ended_stays setup fs store p (x ∷ xs) now t holds.sound.fit (finish_ends outcome body))
+                ap (λ (st : InvocationState). st.answers) (ended_stays setup fs store p (x ∷ xs) now t holds.sound.fit (finish_ends p i outcome x xs body))
                 ∙ behind_is ∙ ap (λ body. add_answer (own_answer store xs x.seq body) l) body
 
             asked_done : asked_at fs p at_now l ≡ Some (k.Done outcome)
@@ -260,7 +236,7 @@ module _ (setup : Setup) (fs : List Function) (w : World) (holds : InvariantHold
           before = l;
           index_is = index;
           first = first;
-          all = λ n begun le. all_below n le;
+          all = all_below;
           asked = subst (λ ask. RecordsAsk fs store ask x.holds) (sym (asked_same l)) (is_asked fs p setup store xs i x.holds step (fit_at (x ∷ xs) t).0);
           own = own;
           end = at_end;
@@ -271,13 +247,17 @@ module _ (setup : Setup) (fs : List Function) (w : World) (holds : InvariantHold
     at_init body new = record {
       before = [];
       index_is = sym (step_index (p, 1) (p, i) (ap step_of (sym body) ∙ step));
-      first = oldest_tail [] (with_free_answers fs store now p at_now (0 - length at_now.answers)) (tail_none _);
-      all = λ n begun le. (let no_way : false ≡ true = sym new ∙ ap (λ ys. (stands setup fs store p ys).begun) (sym below_is) ∙ begun in cc);
+      first = none_yet at_now.begun (oldest_tail [] (with_free_answers fs store now p at_now (0 - length at_now.answers)) (tail_none _));
+      all = λ n le. ap (λ ys. first_decided_answers setup fs store ys p n) below_is ∙ unbegun_decides setup fs store xs p n new;
       asked = subst (λ body. RecordsAsk fs store (asked_at fs p at_now []) body) (sym body) tt;
       own = λ answer is. (let no_way : None ≡ Some answer = ap (own_answer store (records_below x.seq now) x.seq) (sym body) ∙ is in cc);
       end = λ outcome n is le. (let no_way : b.Init p ≡ b.Finish p i outcome = sym body ∙ is in cc);
     }
       where
+        none_yet : {l : List Answer} (begun : Bool) → l ≡ [] → cond begun l [] ≡ []
+        none_yet true e = e
+        none_yet false e = refl
+
         step_index : (s s' : List ℕ × ℕ) → ◌≡◌ {A = Option (List ℕ × ℕ)} (Some s) (Some s') → s.1 ≡ s'.1
         step_index s s' e = ap (λ (s : List ℕ × ℕ). s.1) (same_step s s' e)
 

@@ -73,10 +73,8 @@ pub record IsReached (setup : Setup) (fs : List Function) (store : Store) (recor
   pub index_is : index ≡ suc (length before)
   -- They are the first ones of those that all records decide ..
   pub first : first_decided_answers setup fs store records path (length before) ≡ before
-  -- .. and where the invocation had begun, all that the records below it decide.
-  pub all :
-      (n : ℕ) → (invocation_state setup fs store path (records_below x.seq records)).begun ≡ true → length before ≤ n
-      → first_decided_answers setup fs store (records_below x.seq records) path n ≡ before
+  -- .. and all that the records below it decide.
+  pub all : (n : ℕ) → length before ≤ n → first_decided_answers setup fs store (records_below x.seq records) path n ≡ before
   -- After them the script asks what the record says;
   pub asked : RecordsAsk fs store (asked_at fs path (invocation_state setup fs store path records) before) x.holds
   -- what the record answers is the next answer that is decided,
@@ -101,8 +99,7 @@ pub record IsDecided (setup : Setup) (fs : List Function) (m : Machine) (path : 
   pub called :
       (invocation_state setup fs (values_only m.store) path (live_records m)).begun ≡ true
       → IsCalled fs (live_records m) path (invocation_state setup fs (values_only m.store) path (live_records m))
-  -- Each answer is of what the script asks. (Of an invocation that hasn't begun the fold tells what function 0 would
-  -- read without arguments, which nobody looks at.)
+  -- each answer is of what the script asks
   pub answered :
       (n : ℕ)
       → AnswerInOrder fs path (invocation_state setup fs (values_only m.store) path (live_records m))

@@ -1,6 +1,8 @@
 -- Decided answers are the script's.
-use Rattle.std.proofs.Common.{◌-◌, length}
-use Rattle.boki_machine.specs.Decided.{with_free_answers}
+use Rattle.std.proofs.Common.{ℕ, ◌-◌, Bool, true, false, cond, List, [], length}
+use Rattle.boki_types.specs.declared.operation.Answer.{Answer}
+use Rattle.boki_types.specs.declared.program.Function.{Function}
+use Rattle.boki_machine.specs.Decided.{InvocationState, with_free_answers, oldest}
 use Rattle.boki_machine.specs.Machine.{live_records}
 use Rattle.exactly_once.specs.Induction.EventKeeps.{EventsKeepInvariant}
 use Rattle.exactly_once.specs.FurtherLaws.Words.{values_only}
@@ -9,10 +11,14 @@ use Rattle.exactly_once.specs.Induction.OpeningHolds.{world_of}
 use Rattle.exactly_once.proofs.Invocations.NextRecord.{stands, is_called}
 use Rattle.exactly_once.proofs.AfterEvents.AnyEvents.{after_events}
 use Rattle.machine_laws.proofs.Writes.{behind}
-use Rattle.decided_laws.specs.Laws.{WhereHolding}
-use Rattle.decided_laws.specs.Scripts.{DecidedAreScripts}
-use Rattle.decided_laws.proofs.Answered.{are_dropped, are_more, are_answers}
-use Rattle.decided_laws.proofs.Reached.{reached}
+use Rattle.machine_laws.specs.Laws.{WhereHolding}
+use Rattle.machine_laws.specs.Scripts.{AnswerInOrder, DecidedAreScripts}
+use Rattle.machine_laws.proofs.Answered.{are_dropped, are_more, are_answers}
+use Rattle.machine_laws.proofs.Reached.{reached}
+
+if_begun : (fs : List Function) (path : List ℕ) (st : InvocationState) (l : List Answer) (begun : Bool) → AnswerInOrder fs path st l → AnswerInOrder fs path st (cond begun l [])
+if_begun fs path st l true are = are
+if_begun fs path st l false are = tt
 
 pub holding_decide_scripts : WhereHolding DecidedAreScripts
 holding_decide_scripts setup fs m good path =
@@ -25,8 +31,9 @@ holding_decide_scripts setup fs m good path =
           record { call = its.call; called = its.called; function_is = its.function_is; args_are = its.args_are });
       answered = λ n.
           (let l = with_free_answers fs store now path st (n - length st.answers) in
-          are_dropped fs path st (length l - n) l
-          (are_more fs path store now st (n - length st.answers) (are_answers fs path setup store now good.holds.sound.fit)));
+          if_begun fs path st (oldest n l) st.begun
+          (are_dropped fs path st (length l - n) l
+          (are_more fs path store now st (n - length st.answers) (are_answers fs path setup store now good.holds.sound.fit))));
       reached = λ x index among step.
           (let its = behind x now among in
           reached setup fs (world_of m) good.holds path x its.rest its.tail index step);
