@@ -181,12 +181,14 @@ impl ObjStore {
     }
 
     /// Lifts the floor. Of each object the last write below it is kept, and the other writes below it are dropped, and so are the
-    /// values under the names of the settled writes. Fences stay. A floor not above the old one changes nothing.
+    /// values under the names of the settled writes. Fences stay. A floor not above the old one changes nothing, whatever is given,
+    /// and takes no memory.
     ///
-    /// It needs all live logged writes from the old floor up to below the new one, from the oldest on, each with its value: that of
+    /// Else it needs all live logged writes from the old floor up to below the new one, from the oldest on, each with its value: that of
     /// its record, or else the one that is kept under its name. After `Memory` the store is unchanged.
     pub fn sweep(&mut self, floor: Seqnum, settled: &[Settled]) -> Result<(), Memory>
         ensures ok { OnOk result ((m : Store) (records : List (Live Body)) → StandsFor self.old m records → settled.now ≡ logged_between m.floor floor.0 records → AllHaveValues self.old.named settled.now → StandsFor self.new (model.after_sweep floor.0 m) records) }
+        ensures not_above { floor.0 ≤ self.old.floor → (result ≡ Ok tt) × (self.new ≡ self.old) }
         ensures err { OnErr result (IsUnchanged self.old self.new) }
     {
         if floor.0 <= self.floor.0 {
