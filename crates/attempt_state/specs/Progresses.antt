@@ -1,11 +1,9 @@
 -- Where an attempt stands, but for its script: what is kept of an attempt of the machine.
 use Rattle.std.specs.Prelude.{ℕ, suc, ◌&&◌, Bool, false, cond, length, Option, Some, None, option_map}
 use Rattle.lb_base.specs.declared.value.Seqnum.{Seqnum}
-use Rattle.boki_types.specs.declared.line.Life.{Life}
 use Rattle.boki_types.specs.declared.line.Life.TheVariants.{Killed}
 use Rattle.boki_machine.specs.Attempt.{Attempt}
-use Rattle.boki_machine.specs.Step as step
-use Rattle.boki_machine.specs.Step.{seqnum}
+use Rattle.boki_machine.specs.Step.{seqnum, is_running}
 use Rattle.attempt_state.specs.declared.progress.Progress.{Progress}
 
 -- of its answers how many there are; nothing of its function and arguments, which its script has
@@ -25,11 +23,9 @@ progress_of a = record {
   transaction = option_map seqnum a.transaction;
 }
 
-abbrev pub is_running : Life → Bool
-is_running life = step.is_running life
-
-abbrev pub can_lose : Progress → Bool
-can_lose p = is_running p.life && p.waiting
+-- it runs, and waits for a record that it has sent
+abbrev pub awaits_record : Progress → Bool
+awaits_record p = is_running p.life && p.waiting
 
 abbrev pub adopted_progress : ℕ → Progress → Progress
 adopted_progress seq p =
@@ -42,7 +38,7 @@ abbrev pub killed_progress : Progress → Progress
 killed_progress p = cond (is_running p.life) (record p { life = Killed }) p
 
 abbrev pub lost_progress : Progress → Progress
-lost_progress p = cond (can_lose p) (record p { waiting = false }) p
+lost_progress p = cond (awaits_record p) (record p { waiting = false }) p
 
 abbrev pub begin_of : Option Seqnum → ℕ
 begin_of None = 0

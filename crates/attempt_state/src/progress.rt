@@ -1,6 +1,7 @@
-ghost use Rattle.std.specs.Prelude.{◌≡◌, ◌+◌, ◌<◌, ◌^◌, suc, unwrap_or, option_map, IfOk};
+ghost use Rattle.std.specs.Prelude.{◌≡◌, ◌+◌, ◌<◌, ◌^◌, suc, IfOk};
 ghost use Rattle.boki_machine.specs.Attempt.{new_attempt};
-ghost use Rattle.attempt_state.specs.Progresses.{progress_of, adopted_progress, answered_progress, killed_progress, lost_progress, is_running, can_lose, begin_of};
+ghost use Rattle.boki_machine.specs.Step.{is_running};
+ghost use Rattle.attempt_state.specs.Progresses.{progress_of, adopted_progress, answered_progress, killed_progress, lost_progress, awaits_record, begin_of};
 
 use boki_types::{Life, Name};
 use lb_base::{Memory, Mode, Path, Seqnum};
@@ -106,7 +107,7 @@ impl Progress {
 
     /// Where it runs and waits for a record it forgets that, and whether it did is the answer.
     pub fn lose(&mut self) -> bool
-        ensures answer { result ≡ can_lose self.old }
+        ensures answer { result ≡ awaits_record self.old }
         ensures after { self.new ≡ lost_progress self.old }
     {
         let can = self.is_running() && self.waiting;

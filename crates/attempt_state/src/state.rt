@@ -1,11 +1,10 @@
 ghost use Rattle.std.specs.Prelude.{◌≡◌, ◌≢◌, ◌+◌, ◌<◌, ◌^◌, length, List, unwrap_or, IfOk, OnOk, OnErr};
-ghost use Rattle.std.specs.Option.{option_copied};
 ghost use Rattle.boki_types.specs.declared.program.Function.{Function};
 ghost use Rattle.boki_types.specs.Finding.{find, arity};
 ghost use Rattle.boki_machine.specs.Attempt.{Attempt, new_attempt, adopts, answered_with};
-ghost use Rattle.boki_machine.specs.Step.{after_kill, after_lose};
+ghost use Rattle.boki_machine.specs.Step.{after_kill, after_lose, is_running};
 ghost use Rattle.script_ranges.specs.Sends.{CallFits};
-ghost use Rattle.attempt_state.specs.Progresses.{progress_of, is_running, can_lose};
+ghost use Rattle.attempt_state.specs.Progresses.{progress_of, awaits_record};
 ghost use Rattle.attempt_state.specs.Attempts.{AttemptStandsFor, FrameTakes, HasScript, SameScript, IsBegun};
 
 use crate::progress::Progress;
@@ -47,7 +46,7 @@ impl AttemptState {
 
     /// Where it runs and waits for a record it forgets that, and whether it did is the answer. It takes no memory.
     pub fn lose(&mut self) -> bool
-        ensures answer { result ≡ can_lose self.old.progress }
+        ensures answer { result ≡ awaits_record self.old.progress }
         ensures after { (functions : List Function) (a : Attempt) → AttemptStandsFor functions a self.old → AttemptStandsFor functions (after_lose a) self.new }
     {
         self.progress.lose()
