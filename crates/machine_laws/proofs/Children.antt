@@ -18,6 +18,7 @@ use Rattle.boki_types.specs.declared.operation.Ask.TheVariants as k
 use Rattle.boki_types.specs.declared.operation.Answer.{Answer}
 use Rattle.boki_types.specs.declared.operation.Answer.TheVariants as a
 use Rattle.boki_model.specs.Bodies.{child}
+use Rattle.exactly_once.proofs.Asking.SpawnOrdinals.{set_each_spawned, set_target_spawned, set_targets_spawned}
 use Rattle.machine_laws.specs.Children.{IsChild, AsksChild, HasPath, ChildrenHavePaths}
 use Rattle.boki_types.specs.Finding.{find, function_at}
 use Rattle.boki_model.specs.Values.{and_then, as_condition, eval, eval_all, to_name, to_names}
@@ -133,21 +134,6 @@ module _ (depth : ℕ) where
     run_have lines t is = go_have (enter_body fs depth entries) (enter_have entries) None lines t is
 
 -- The start of a function, and an answer.
-
-set_each_spawned : (xs : List (List ℕ)) (vs : List Value) (t : State) → (set_variables xs vs t).spawned ≡ t.spawned
-set_each_spawned [] vs t = refl
-set_each_spawned (x ∷ xs) [] t = refl
-set_each_spawned (x ∷ xs) (v ∷ vs) t = set_each_spawned xs vs (set_variable x v t)
-
-set_target_spawned : (target : Target) (v : Value) (t : State) → (set_target target v t).spawned ≡ t.spawned
-set_target_spawned (One x) v t = refl
-set_target_spawned Nowhere v t = refl
-set_target_spawned (Each xs) v t = refl
-
-set_targets_spawned : (target : Target) (vs : List Value) (t : State) → (set_targets target vs t).spawned ≡ t.spawned
-set_targets_spawned (Each xs) vs t = set_each_spawned xs vs t
-set_targets_spawned Nowhere vs t = refl
-set_targets_spawned (One x) vs t = refl
 
 abbrev ResultHas : ℕ → Result State TrapKind → Type 0
 ResultHas depth (Ok t) = Fits depth t.spawned

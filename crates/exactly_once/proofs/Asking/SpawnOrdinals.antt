@@ -128,17 +128,17 @@ module _ (n : ℕ) where
 
 -- The start of a function, and an answer.
 
-set_each_spawned : (xs : List (List ℕ)) (vs : List Value) (t : State) → (set_variables xs vs t).spawned ≡ t.spawned
+pub set_each_spawned : (xs : List (List ℕ)) (vs : List Value) (t : State) → (set_variables xs vs t).spawned ≡ t.spawned
 set_each_spawned [] vs t = refl
 set_each_spawned (x ∷ xs) [] t = refl
 set_each_spawned (x ∷ xs) (v ∷ vs) t = set_each_spawned xs vs (set_variable x v t)
 
-set_target_spawned : (target : Target) (v : Value) (t : State) → (set_target target v t).spawned ≡ t.spawned
+pub set_target_spawned : (target : Target) (v : Value) (t : State) → (set_target target v t).spawned ≡ t.spawned
 set_target_spawned (One x) v t = refl
 set_target_spawned Nowhere v t = refl
 set_target_spawned (Each xs) v t = refl
 
-set_targets_spawned : (target : Target) (vs : List Value) (t : State) → (set_targets target vs t).spawned ≡ t.spawned
+pub set_targets_spawned : (target : Target) (vs : List Value) (t : State) → (set_targets target vs t).spawned ≡ t.spawned
 set_targets_spawned (Each xs) vs t = set_each_spawned xs vs t
 set_targets_spawned Nowhere vs t = refl
 set_targets_spawned (One x) vs t = refl

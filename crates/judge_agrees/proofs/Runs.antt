@@ -15,7 +15,7 @@ use Rattle.judge_agrees.specs.Counts.{turns_of_log, HaveAtMost}
 use Rattle.judge_agrees.specs.Laws.{turns_printed, IsWithinTextLimits, IsJudged}
 use Rattle.judge_agrees.specs.Requests.{SubmitsUtf8}
 use Rattle.judge_agrees.proofs.Judging.{judge_agrees, plan_gives_texts}
-use Rattle.judge_runs.specs.Laws.{AddedGiveTexts, RunsAreJudged}
+use Rattle.judge_agrees.specs.Runs.{AddedGiveTexts, RunsAreJudged}
 
 both_give : (xs ys : List Output) → AddedGiveTexts (xs ++ ys) → AddedGiveTexts xs × AddedGiveTexts ys
 both_give [] ys all = (tt, all)
