@@ -80,18 +80,35 @@ fn a_restarted_engine_has_lost_its_data(rt: HostRuntime) -> Result<(), Fail> {
     Ok(())
 }
 
+fn put_many(book: &mut Book, count: u64) -> Result<(), Memory>
+    requires { HasEngines 4 book.old }
+    ensures { EnginesStay book.old book.new }
+{
+    for _ in 0..count {
+        put(book, 1, 5, "a")?;
+    }
+    Ok(())
+}
+
+// Sets data of so many records, the first of them first.
+fn note_many(book: &mut Book, count: u64) -> Result<(), Memory>
+    requires { HasEngines 4 book.old }
+    ensures { EnginesStay book.old book.new }
+{
+    for index in 0..count {
+        note(book, 1, index.wrapping_add(1), "note")?;
+    }
+    Ok(())
+}
+
 // Data of 65 records, of which the first is used again before the last is set: whether the first and the second are there then.
 fn sixty_five(book: &mut Book) -> Result<(bool, bool), Memory>
     requires { HasEngines 4 book.old }
 {
-    for _ in 0..65u64 {
-        put(book, 1, 5, "a")?;
-    }
+    put_many(book, 65)?;
     order(book)?;
     show(book, 1)?;
-    for seq in 1..65u64 {
-        note(book, 1, seq, "note")?;
-    }
+    note_many(book, 64)?;
     book.get_aux(1, Seqnum(1));
     note(book, 1, 65, "note")?;
     Ok((

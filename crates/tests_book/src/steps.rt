@@ -6,11 +6,11 @@ ghost use Rattle.tests_book.specs.Engines.{HasEngines, EnginesStay};
 
 use crate::common::{order, show};
 use book_api::Book;
-use lb_base::{Memory, Outcome, Path, Seqnum, Value};
+use lb_base::{Memory, Outcome, Path, Seqnum, Tag, Value};
 use rec_codec::{Body, BodyKind, decode, read_is_spelled};
 use std::alloc::Global;
 use std::test::Fail;
-use step_log::{at, finish_of, kind_at, last_finish, resolve, send, send_body, step_at};
+use step_log::{at, finish_of, kind_at, last_finish, resolve, send, send_body, send_user, step_at};
 
 // The call of `f` under the path 1, the begin, and the end at the step index 3 with the value 5.
 const CALL: [u8; 11] = [1, 1, 1, 0, 0, 0, 1, 0, 1, b'f', 0];
@@ -243,5 +243,34 @@ fn a_call_is_resolved(rt: HostRuntime) -> Result<(), Fail> {
     let found = resolved(rt.alloc(), &mut book);
     drop(book);
     assert_eq!(rt; found?, [true, false]);
+    Ok(())
+}
+
+// The user's record of the tag 5 that the engine 1 sees.
+fn user_text(alloc: Global, book: &mut Book) -> Result<Option<Seqnum>, Memory>
+    requires { HasEngines 2 book.old }
+{
+    send_user(alloc, book, 1, None, &[Tag(5)], b"text")?;
+    order(book)?;
+    show(book, 1)?;
+    Ok(book.check_tail(1, Tag(5)))
+}
+
+// Whether the first record has the bytes of the text, as a user's record spells it.
+fn spells_text(book: &Book) -> bool {
+    match book.record(Seqnum(1)) {
+        Some(rec) => rec.bytes.as_slice() == b"\x01\x10\x00\x04text".as_slice(),
+        None => false,
+    }
+}
+
+#[test]
+fn a_users_text_is_sent(rt: HostRuntime) -> Result<(), Fail> {
+    let mut book = sound_book(rt.alloc())?;
+    let found = user_text(rt.alloc(), &mut book);
+    let spelled = spells_text(&book);
+    drop(book);
+    assert_eq!(rt; found?, Some(Seqnum(1)));
+    assert!(rt; spelled);
     Ok(())
 }
