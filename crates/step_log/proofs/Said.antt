@@ -1,6 +1,6 @@
 -- What a sent body makes of what the records say.
 use Rattle.std.proofs.Common.{◌≡◌, ℕ, zero, suc, ◌-◌, List, [], ◌∷◌, ◌++◌, Option, Result, Ok, Err, IfOk, OnErr, IsTrue, refl, sym, ap, subst, ◌∙◌}
-use Rattle.std.specs.List.{AllByRecursion}
+use Rattle.std.specs.List.{AllByRecursion, list_all}
 use Rattle.lb_base.specs.declared.value.Record.{Record}
 use Rattle.lb_base.specs.declared.value.Cond.{Cond}
 use Rattle.lb_base.specs.declared.value.Tag.{Tag}
@@ -8,6 +8,7 @@ use Rattle.boki_types.specs.declared.body.Body.{Body}
 use Rattle.boki_types.specs.declared.body.Body.TheVariants as b
 use Rattle.boki_types.specs.declared.log.Sent.{Sent}
 use Rattle.boki_model.specs.Bodies.{tags_of, in_range}
+use Rattle.boki_model.specs.Plans.{is_user_tag}
 use Rattle.boki_model.specs.OrderLaws.{add_to}
 use Rattle.exactly_once.specs.FurtherLaws.StepRecords.{OwnTags}
 use Rattle.log_folds.specs.Decoded.{decoded_record}
@@ -15,7 +16,7 @@ use Rattle.log_folds.proofs.MappedOrders.{ordered_alike}
 use Rattle.rec_codec.specs.Reading.{read}
 use Rattle.rec_codec.specs.Spelling.{spelled}
 use Rattle.book_api.specs.Books.{BookState, home_shard, appended, IsSent}
-use Rattle.step_log.specs.Sound.{body_or_end, body_of, bodies, IsSpelled, Sound, record_of, entry_with, IsBodySent}
+use Rattle.step_log.specs.Sound.{body_or_end, body_of, bodies, IsSpelled, Sound, record_of, entry_with, IsBodySent, user_record, user_entry, IsUserSent}
 
 -- a record is added to a shard whose records are all so
 all_push : {A : Type 0} (P : A → Type 0) (xs : List A) (y : A) → AllByRecursion P xs → P y → AllByRecursion P (xs ++ y ∷ [])
@@ -91,3 +92,40 @@ pub sent_record : (condition : Option Cond) (body : Body) (tags : List Tag) (byt
     → record_with tags condition bytes ≡ record_of condition body
 sent_record condition body tags bytes t s =
     ap (λ l. record_with l condition bytes) t ∙ ap (λ l. record_with (tags_of body) condition l) s
+
+-- a user's record
+user_said : (condition : Option Cond) (tags : List Tag) (bytes : List ℕ) → read (spelled (b.User bytes)) ≡ Ok (b.User bytes) → decoded_record body_of (user_record condition tags bytes) ≡ user_entry condition tags bytes
+user_said condition tags bytes again = ap (λ told. record (user_entry condition tags bytes) { holds = told }) (says (b.User bytes) again)
+
+user_spelled : (condition : Option Cond) (tags : List Tag) (bytes : List ℕ) → read (spelled (b.User bytes)) ≡ Ok (b.User bytes) → IsTrue (in_range (b.User bytes)) → IsTrue (list_all is_user_tag tags)
+    → IsSpelled (user_record condition tags bytes)
+user_spelled condition tags bytes again range own =
+    let told = says (b.User bytes) again in
+    record {
+      spells = again ∙ ap Ok (sym told);
+      range = subst (λ x. IsTrue (in_range x)) (sym told) range;
+      tags = subst (λ x. OwnTags x tags) (sym told) own;
+    }
+
+-- where a record was sent that is a user's
+module _ {E : Type 0} (engine : ℕ) (condition : Option Cond) (tags : List Tag) (bytes : List ℕ) (old new : BookState) (r : Record) (is : r ≡ user_record condition tags bytes) (again : read (spelled (b.User bytes)) ≡ Ok (b.User bytes)) where
+  pub is_user_sent : (result : Result Sent E) → IfOk result (IsSent engine r old new) → IfOk result (IsUserSent engine condition tags bytes old new)
+  is_user_sent (Err e) sent = tt
+  is_user_sent (Ok at) sent = record {
+    location = sent.location;
+    after = sent.after ∙ ap (λ r. appended engine r old) is;
+    says =
+        ap bodies (sent.after ∙ ap (λ r. appended engine r old) is)
+        ∙ sym ((ordered_alike (decoded_record body_of) old.shards).one_more (home_shard old engine - 1) (user_record condition tags bytes))
+        ∙ ap (λ e. add_to (home_shard old engine - 1) e (bodies old)) (user_said condition tags bytes again);
+  }
+
+  pub user_stays_sound : (result : Result Sent E) → IsTrue (in_range (b.User bytes)) → IsTrue (list_all is_user_tag tags) → IfOk result (IsSent engine r old new) → OnErr result (new ≡ old) → Sound old → Sound new
+  user_stays_sound (Err e) range own sent same sound = subst Sound (sym same) sound
+  user_stays_sound (Ok at) range own sent same sound =
+      subst Sound (sym (sent.after ∙ ap (λ r. appended engine r old) is))
+      (all_add IsSpelled (home_shard old engine - 1) (user_record condition tags bytes) old.shards sound (user_spelled condition tags bytes again range own))
+
+pub user_record_is : (condition : Option Cond) (tags told : List Tag) (bytes spelling : List ℕ) → told ≡ tags → spelling ≡ spelled (b.User bytes) → record_with told condition spelling ≡ user_record condition tags bytes
+user_record_is condition tags told bytes spelling t s =
+    ap (λ l. record_with l condition spelling) t ∙ ap (λ l. record_with tags condition l) s

@@ -4,6 +4,7 @@ use Rattle.std.specs.List.{AllByRecursion}
 use Rattle.lb_base.specs.declared.value.Record.{Record}
 use Rattle.lb_base.specs.declared.value.Seqnum.{Seqnum}
 use Rattle.lb_base.specs.declared.value.Cond.{Cond}
+use Rattle.lb_base.specs.declared.value.Tag.{Tag}
 use Rattle.boki_types.specs.declared.body.Body.{Body}
 use Rattle.boki_types.specs.declared.body.Body.TheVariants as b
 use Rattle.boki_types.specs.declared.log.Sent.{Sent}
@@ -63,3 +64,15 @@ pub record IsBodySent (engine : ℕ) (condition : Option Cond) (body : Body) (ol
   pub location : sent ≡ next_sent old engine
   pub after : new ≡ appended engine (record_of condition body) old
   pub says : bodies new ≡ add_to (home_shard old engine - 1) (entry_with condition body) (bodies old)
+
+-- a user's bytes were sent with these tags under a condition, and this is where the record stands
+abbrev pub user_record : Option Cond → List Tag → List ℕ → Record
+user_record condition tags bytes = record { tags = tags; cond = condition; bytes = spelled (b.User bytes) }
+
+abbrev pub user_entry : Option Cond → List Tag → List ℕ → LogRecord Body
+user_entry condition tags bytes = record { tags = tags; condition = condition; holds = b.User bytes }
+
+pub record IsUserSent (engine : ℕ) (condition : Option Cond) (tags : List Tag) (bytes : List ℕ) (old new : BookState) (sent : Sent) : Type 0 where
+  pub location : sent ≡ next_sent old engine
+  pub after : new ≡ appended engine (user_record condition tags bytes) old
+  pub says : bodies new ≡ add_to (home_shard old engine - 1) (user_entry condition tags bytes) (bodies old)
