@@ -1,11 +1,11 @@
 -- Live records by their seqnums, and what the book's bytes say of them.
-use Rattle.std.proofs.Common.{◌≡◌, inl, inr, ℕ, suc, ◌<◌, Bool, true, false, cond, eqb, List, [], ◌∷◌, length, reverse, take, Option, Some, None, option_map, refl, sym, ap, subst, ◌∙◌, arith}
+use Rattle.std.proofs.Common.{◌≡◌, inl, inr, ℕ, suc, ◌<◌, Bool, true, false, cond, eqb, List, [], ◌∷◌, length, reverse, take, Option, Some, None, option_map, refl, sym, ap, subst, ◌∙◌, arith, leb, ◌&&◌}
 use Rattle.std.specs.Option.{option_map_or}
-use Rattle.std.proofs.lemmas.Bool.{ne_eqb, eq-eqb, eqb-true}
+use Rattle.std.proofs.lemmas.Bool.{ne_eqb, eq-eqb, eqb-true, eqb-false}
 use Rattle.lb_base.specs.declared.value.Record.{Record}
 use Rattle.boki_types.specs.declared.body.Body.{Body}
 use Rattle.boki_types.specs.declared.body.Body.TheVariants as b
-use Rattle.boki_model.specs.Live.{Live, upto}
+use Rattle.boki_model.specs.Live.{Live, upto, has_tag, count}
 use Rattle.boki_model.specs.Reads.{tagged_seqnums, nth}
 use Rattle.boki_model.specs.Order.{order, at_seq}
 use Rattle.boki_model.specs.LogLaws.{FallBelow}
@@ -57,6 +57,27 @@ module _ {A : Type 0} where
           let same : y ≡ x = cc in
           record { seqnum = ap (λ (z : Live A). z.seq) (sym same) ∙ sym (eqb-true seq y.seq t); among = inl (sym same) }
       at ih false t is = let rest = ih is in record { seqnum = rest.seqnum; among = inr rest.among }
+
+-- what stands at a place below the count
+pub nth_there : {A : Type 0} (tag place : ℕ) (xs : List (Live A)) → place < count tag xs → (x : Live A) × (nth tag place xs ≡ Some x)
+nth_there tag place [] lt = absurd (let f : ⊥ = omega arith in f)
+nth_there {A} tag place (y ∷ ys) lt = at (nth_there tag place ys) (has_tag tag y.tags) (eqb place (count tag ys)) refl lt
+  where
+    at :
+        (place < count tag ys → (x : Live A) × (nth tag place ys ≡ Some x)) → (b c : Bool) → eqb place (count tag ys) ≡ c
+        → place < cond b (suc (count tag ys)) (count tag ys)
+        → (x : Live A) × (cond (b && c) (Some y) (nth tag place ys) ≡ Some x)
+    at ih true true e lt = (y, refl)
+    at ih true false e lt = ih (let apart = eqb-false place (count tag ys) e in omega arith)
+    at ih false c e lt = ih lt
+
+pub among_upto : {A : Type 0} (p : ℕ) (x : Live A) (xs : List (Live A)) → IsAmong x (upto p xs) → IsAmong x xs
+among_upto p x [] among = among
+among_upto {A} p x (y ∷ ys) among = at (among_upto p x ys) (leb y.seq p) among
+  where
+    at : (IsAmong x (upto p ys) → IsAmong x ys) → (t : Bool) → IsAmong x (cond t (y ∷ ys) (upto p ys)) → IsAmong x (y ∷ ys)
+    at ih true among = among
+    at ih false among = inr (ih among)
 
 -- The records of a book.
 pub view_falls : (kept : BookState) (engine : ℕ) → FallBelow (suc (position kept engine)) (view kept engine)

@@ -1,0 +1,3 @@
+pub mod QueueStates
+pub mod Shared
+pub mod Walks
