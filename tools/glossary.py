@@ -3,7 +3,8 @@
 
 Each public name of these definitions stands in an entry of the glossary, as `crate/specs/File.name` or among the names of
 `crate/specs/File.{name, name}`. The script lists the names that no entry has, and the entries' names and types, as
-`crate::Type`, that no file has. It ends with status 1 where there is one.
+`crate::Type`, that no file has. It also lists the law functions of the crates of laws that docs/DEFINITIONS.md doesn't
+name. It ends with status 1 where there is one of these.
 """
 import pathlib
 import re
@@ -11,11 +12,15 @@ import sys
 
 TOP = pathlib.Path(__file__).resolve().parent.parent
 CRATES = ["boki_model", "boki_machine", "exactly_once", "run_with"]
+# Crates whose public functions have empty bodies, and laws as their contracts.
+LAWS = """books_alone exactly_once flow_once judge_agrees judge_runs legal_logs log_folds machine_laws run_with script_ranges
+    store_laws switch_laws transfer_laws""".split()
 # What the proof of exactly_once goes by, and no reader needs to believe, stands in this folder of its specs.
 INVARIANT = "Induction"
 
 DECLARED = re.compile(r"^(?:pub (?:abbrev|record|data)|abbrev pub) ([^\s:({]+)", re.MULTILINE)
 TYPE = re.compile(r"`(\w+)::(\w+)`")
+LAW = re.compile(r"^pub fn (\w+)", re.MULTILINE)
 LISTED = re.compile(r"`(\w+)/specs/([\w/]+)\.(?:\{([^}]+)\}|([^\s`{}]+))`")
 
 
@@ -51,6 +56,13 @@ def unknown_types(glossary):
     return found
 
 
+def unnamed_laws(definitions):
+    """The law functions that the text doesn't name: (crate, name)."""
+    named = set(re.findall(r"`(\w+)`", definitions))
+    files = [(crate, path) for crate in LAWS for path in (TOP / "crates" / crate / "src").glob("**/*.rt")]
+    return {(crate, law) for crate, path in files for law in LAW.findall(path.read_text()) if law not in named}
+
+
 def main():
     glossary = (TOP / "docs" / "GLOSSARY.md").read_text()
     names, entries, unknown = declared(False), listed(glossary), unknown_types(glossary)
@@ -60,8 +72,11 @@ def main():
             print(f"{crate}/specs/{file}.{name}: {text}")
     for crate, name in sorted(unknown):
         print(f"{crate}::{name}: in no file")
+    unnamed = unnamed_laws((TOP / "docs" / "DEFINITIONS.md").read_text())
+    for crate, law in sorted(unnamed):
+        print(f"{crate}::{law}: not in docs/DEFINITIONS.md")
     print(f"{len(names & entries)} of {len(names)} names are in the glossary")
-    sys.exit(bool(without_entry or without_file or unknown))
+    sys.exit(bool(without_entry or without_file or unknown or unnamed))
 
 
 main()

@@ -2,6 +2,7 @@
 pub mod AnyEvents
 pub mod DuplicatesAgree
 pub mod EndedInvocations
+pub mod EndIsLast
 pub mod CountedOperations
 pub mod LogEconomy
 pub mod StoredOnce

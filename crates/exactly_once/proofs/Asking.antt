@@ -4,3 +4,4 @@ pub mod NewChildren
 pub mod ScriptAsks
 pub mod OpenTransactions
 pub mod FreeAtCursor
+pub mod FunctionNames

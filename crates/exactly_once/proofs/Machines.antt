@@ -2,6 +2,7 @@
 pub mod ShardsAndVectors
 pub mod StepEffects
 pub mod EnginesStay
+pub mod SentRecords
 pub mod EventEffects
 pub mod EventKeeps
 pub mod ExactlyOnce

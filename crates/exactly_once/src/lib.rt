@@ -116,7 +116,8 @@ pub fn duplicates_agree()
 
 /// Ended invocations are left alone: once an invocation has its Finish, no step of an attempt of it, and no store call whose
 /// answer is lost, changes a version, the fence of a key, the floor or a named value, but for a value that stands in its record
-/// too; no step record of it that was sent becomes live; and only such attempts are told that the store has dropped something.
+/// too; no step record of it that was sent becomes live; its Finish is its last live step record, also where one cut orders
+/// others behind it; and only such attempts are told that the store has dropped something.
 pub fn ended_have_no_effect()
     ensures { AfterEvents EndedHaveNoEffect }
 {}

@@ -1,5 +1,5 @@
--- For which turns and which state of the definitions an execution stands, and the fold of numbered turns.
-use Rattle.std.specs.Prelude.{◌≡◌, ℕ, List, [], ◌∷◌, ◌++◌, Option, Some, None, Result, Ok, Err, option_and_then}
+-- For which turns and which state of the definitions an execution stands.
+use Rattle.std.specs.Prelude.{◌≡◌, ℕ, List, [], ◌∷◌, ◌++◌, Option, Some, None, option_and_then}
 use Rattle.lb_base.specs.declared.value.Outcome.{Outcome}
 use Rattle.boki_types.specs.declared.program.Function.{Function}
 use Rattle.boki_types.specs.declared.operation.Ask.{Ask}
@@ -46,12 +46,3 @@ IsAsked kept p asks = (fs : List Function) (m : Ideal) (ts : List Turn) → Stan
 abbrev pub results_in : List (List ℕ × KnownInvocation) → List (List ℕ × Outcome)
 results_in [] = []
 results_in (x ∷ xs) = add_outcome x.0 x.1.result (results_in xs)
-
--- Turns that are numbered by their lines: the state behind all of them, or the line of the first that can't be done.
-abbrev pub judged_next : (Ideal → Result Ideal ℕ) → ℕ → Option Ideal → Result Ideal ℕ
-judged_next rest line None = Err line
-judged_next rest line (Some m) = rest m
-
-abbrev pub judged : List Function → List (ℕ × Turn) → Ideal → Result Ideal ℕ
-judged fs [] m = Ok m
-judged fs (x ∷ xs) m = judged_next (judged fs xs) x.0 (apply_turn fs x.1 m)

@@ -4,12 +4,14 @@ ghost use Rattle.std.specs.Prelude.{◌≡◌, ◌++◌, ◌∷◌, [], ◌+◌,
 ghost use Rattle.std.specs.BTreeMap.{is_at};
 ghost use Rattle.boki_model.specs.Maps.{key_order};
 ghost use Rattle.ideal_run.specs.Kept.{maps_of};
-ghost use Rattle.ideal_run.specs.Changes.{maps_before, undone, reverted, restored, changed_at, unpushed, unpopped};
+ghost use Rattle.ideal_run.specs.Changes.{maps_before, undone, reverted, restored, changed_at, but_last, unpushed, unpopped};
 
 use crate::kept::{Change, KnownInvocation, Queue, Stored};
 use crate::state::State;
 use lb_base::{List, Memory, Path, Value, Words};
+use std::alloc::Global;
 use std::collections::BTreeMap;
+use std::mem;
 
 /// Gives a key its old value back, or takes it out where it had none.
 pub(crate) fn restore<K: Ord + Drop, V: Drop>(map: &mut BTreeMap<K, V>, key: &K, old: Option<V>)
@@ -27,12 +29,32 @@ pub(crate) fn restore<K: Ord + Drop, V: Drop>(map: &mut BTreeMap<K, V>, key: &K,
     }
 }
 
+/// Gives back the room that a list has no use for.
+fn shrink(alloc: Global, list: &mut List<Value>)
+    ensures { list.new ≡ list.old }
+{
+    let mut items = mem::replace(list, List::new(alloc)).into_vec();
+    items.shrink_to_fit();
+    *list = List::from_vec(items);
+}
+
+/// Takes the last value of a list off, and gives back the room that it no longer needs.
+fn drop_last(alloc: Global, list: &mut List<Value>)
+    ensures { list.new ≡ but_last list.old }
+{
+    list.pop();
+    // At powers of two alone, so that this costs no more than the values that are taken off.
+    if list.len().is_power_of_two() {
+        shrink(alloc, list);
+    }
+}
+
 /// Takes the last value of a queue off, where it is known.
-fn unpush(queues: &mut BTreeMap<Words, Queue>, name: &Words)
+fn unpush(alloc: Global, queues: &mut BTreeMap<Words, Queue>, name: &Words)
     ensures { queues.new.entries ≡ changed_at (is_at (key_order name.now)) unpushed queues.old.entries }
 {
     if let Some(queue) = queues.get_mut(name) {
-        queue.values.pop();
+        drop_last(alloc, &mut queue.values);
     }
 }
 
@@ -56,7 +78,7 @@ impl State {
             Change::Opened(name) => {
                 self.queues.remove(&name);
             }
-            Change::Pushed(name) => unpush(&mut self.queues, &name),
+            Change::Pushed(name) => unpush(self.alloc, &mut self.queues, &name),
             Change::Popped(name) => unpop(&mut self.queues, &name),
             Change::Name(name, old) => restore(&mut self.names, &name, old),
             Change::Commits(commits) => self.commits = commits,
@@ -64,13 +86,14 @@ impl State {
         }
     }
 
-    /// Undoes all changes of the log.
+    /// Undoes all changes of the log, and gives back the room that they took.
     pub(crate) fn undo(&mut self)
         ensures maps { maps_of self.new ≡ maps_before self.old }
     {
         while let Some(change) = self.log.pop() {
             self.revert(change);
         }
+        self.log.shrink_to_fit();
     }
 
     /// Keeps all changes of the log.

@@ -152,6 +152,7 @@ impl State {
                     begun,
                 };
                 restore(&mut self.invocations, &path, Some(known));
+                self.keep();
                 Ok(())
             }
             Err(fault) => {

@@ -26,6 +26,8 @@ use Rattle.exactly_once.proofs.Machines.ExactlyOnce.{events_are_exact, valid_eve
 use Rattle.exactly_once.proofs.Attempts.LostAnswerKeeps.{misses_keep}
 use Rattle.exactly_once.proofs.Attempts.StepKeeps.{moves_keep}
 use Rattle.exactly_once.proofs.OldVersions.VersionKeeps.{versions_keep}
+use Rattle.call_base.specs.declared.status.Status.TheVariants.{Done}
+use Rattle.call_base.specs.Due.{due, due_by}
 use Rattle.plan_lang.specs.Printed.{turn_line, report_text}
 use Rattle.line_text.specs.Texts.{line_count}
 use Rattle.plan_lang.specs.Texts.{plan_of}
@@ -175,10 +177,10 @@ judge_agrees text plan es e all texts few within =
     record {
       read = read;
       due =
-          ap judge_by read
-          ∙ ap (λ (xs : List Turn). judgement fs xs (judge_in_order fs (with_line_numbers n ts) (initial_ideal plan.objects))) (bare n ts)
-          ∙ ap (judgement fs ts) (runs fs (with_line_numbers n ts) (initial_ideal plan.objects) exact.state (ap (λ xs. run_turns fs xs (initial_ideal plan.objects)) (bare n ts) ∙ exact.defined))
-          ∙ ap (λ r. Ok (report_text fs r)) exact.reported;
+          ap (λ t. due_by (due Done) (judge_by t)) read
+          ∙ ap (λ (xs : List Turn). due_by (due Done) (judgement fs xs (judge_in_order fs (with_line_numbers n ts) (initial_ideal plan.objects)))) (bare n ts)
+          ∙ ap (λ o. due_by (due Done) (judgement fs ts o)) (runs fs (with_line_numbers n ts) (initial_ideal plan.objects) exact.state (ap (λ xs. run_turns fs xs (initial_ideal plan.objects)) (bare n ts) ∙ exact.defined))
+          ∙ ap (λ r. due Done (report_text fs r)) exact.reported;
     }
 
 -- The texts of a plan's events.

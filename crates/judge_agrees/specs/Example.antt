@@ -1,7 +1,8 @@
 -- Two texts of turns: a request that writes an object and ends; and the same request, ended too early.
-use Rattle.std.specs.Prelude.{◌≡◌, ℕ, List, ◌++◌, Ok, Err, codes}
+use Rattle.std.specs.Prelude.{◌≡◌, ℕ, List, ◌++◌, codes}
 use Rattle.boki_types.specs.declared.kind.Kind.TheVariants as kind
-use Rattle.line_text.specs.Faults.{refused_at}
+use Rattle.call_base.specs.declared.status.Status.TheVariants.{Done}
+use Rattle.call_base.specs.Due.{due, refusal}
 use Rattle.judge_agrees.specs.Judged.{judge_due}
 
 abbrev pub head : List ℕ
@@ -18,5 +19,5 @@ results = codes "result 1 value \"x\"\nobject \"x\" 7\nend\n"
 
 -- The first is judged to its report, and of the second the line is refused at which the script isn't done.
 pub record ExampleJudged : Type 0 where
-  pub reported : judge_due (head ++ turns_done) ≡ Ok (codes "report\n" ++ (turns_done ++ results))
-  pub refused : judge_due (head ++ turns_stopped) ≡ Err (refused_at 9 kind.Illegal)
+  pub reported : judge_due (head ++ turns_done) ≡ due Done (codes "report\n" ++ (turns_done ++ results))
+  pub refused : judge_due (head ++ turns_stopped) ≡ refusal 9 kind.Illegal

@@ -6,6 +6,8 @@ use Rattle.boki_types.specs.declared.turn.Turn.{Turn}
 use Rattle.boki_types.specs.declared.turn.TurnText.{TurnText}
 use Rattle.boki_machine.specs.Ideal.{Ideal, apply_turn, initial_ideal}
 use Rattle.boki_machine.specs.Reports.{ideal_report}
+use Rattle.call_base.specs.declared.status.Status.TheVariants.{Done}
+use Rattle.call_base.specs.Due.{Due, due, due_by}
 use Rattle.line_text.specs.declared.fault.TextFault.{TextFault}
 use Rattle.plan_lang.specs.Printed.{report_text}
 use Rattle.line_text.specs.Faults.{refused_at}
@@ -34,7 +36,11 @@ abbrev pub judge_by : Result TurnText TextFault → Result (List ℕ) TextFault
 judge_by (Ok t) = judge_turns t
 judge_by (Err fault) = Err fault
 
--- What is due on a text: Ok is Done with this text, that of the report behind its last turn; Err is Refused with this line and
--- kind: the line that the grammar refuses, or `illegal` at the first turn that can't be done.
-abbrev pub judge_due : List ℕ → Result (List ℕ) TextFault
-judge_due text = judge_by (turns_of text)
+-- what a text of turns is judged to: the report behind its last turn; or a refusal, with the line and kind that the grammar
+-- gives, or `illegal` at the first turn that can't be done
+abbrev pub judged_text : List ℕ → Result (List ℕ) TextFault
+judged_text text = judge_by (turns_of text)
+
+-- What is due of a call that judges a text: Done with the text of the report, or the refusal.
+abbrev pub judge_due : List ℕ → Due
+judge_due text = due_by (due Done) (judged_text text)

@@ -10,6 +10,8 @@ use Rattle.boki_model.specs.Plans.{events, is_event}
 use Rattle.boki_machine.specs.Ideal.{Ideal, run_turns}
 use Rattle.boki_machine.specs.Machine.{Machine, initial_machine, apply_events, run_plan}
 use Rattle.boki_machine.specs.Reports.{report}
+use Rattle.call_base.specs.declared.status.Status.TheVariants.{Done}
+use Rattle.call_base.specs.Due.{due}
 use Rattle.plan_lang.specs.Printed.{turn_line, report_text}
 use Rattle.plan_lang.specs.Texts.{plan_of}
 use Rattle.line_text.specs.Texts.{line_count}
@@ -67,7 +69,7 @@ turns_printed plan m = text_with plan (turns_of_log plan.program.functions m)
 -- It is read as these turns, and judged to the machine's report.
 pub record IsJudged (plan : Plan) (m : Machine) : Type 0 where
   pub read : turns_of (turns_printed plan m) ≡ Ok (turn_text_of plan (turns_of_log plan.program.functions m))
-  pub due : judge_due (turns_printed plan m) ≡ Ok (report_text plan.program.functions (report plan.program.functions m))
+  pub due : judge_due (turns_printed plan m) ≡ due Done (report_text plan.program.functions (report plan.program.functions m))
 
 -- So it is for a plan that a text spells, behind any events that it can have, whose texts are UTF-8: where the text of the
 -- turns is within its limits, and each count of operations too.

@@ -1,8 +1,8 @@
 -- A Finish is the last live step record of its path.
-use Rattle.std.proofs.Common.{◌≡◌, ⊎_elim, ℕ, suc, ◌-◌, ◌<◌, ◌≤◌, Bool, true, false, cond, eqb, ◌&&◌, List, [], ◌∷◌, length, Option, Some, None, option_map, refl, sym, ap, ◌∙◌, arith}
-use Rattle.std.specs.Prelude.{bytes_eq, is_some, slice_get}
+use Rattle.std.proofs.Common.{◌≡◌, ℕ, suc, ◌-◌, Bool, true, false, cond, eqb, ◌&&◌, List, [], ◌∷◌, length, Option, Some, None, option_map, refl, sym, ap, ◌∙◌, arith}
+use Rattle.std.specs.Prelude.{bytes_eq, slice_get}
 use Rattle.std.specs.List.{AllByRecursion}
-use Rattle.std.proofs.lemmas.Bool.{eq-eqb, cases_lt}
+use Rattle.std.proofs.lemmas.Bool.{eq-eqb}
 use Rattle.lb_base.specs.Path.{is_path}
 use Rattle.lb_base.specs.declared.value.Outcome.{Outcome}
 use Rattle.boki_types.specs.declared.body.Body.{Body}
@@ -17,26 +17,22 @@ use Rattle.boki_model.specs.Modes.{finish_of, result_of}
 use Rattle.boki_model.specs.Writes.{Store}
 use Rattle.boki_machine.specs.Decided.{InvocationState}
 use Rattle.boki_machine.specs.Machine.{log, live_records, position}
-use Rattle.exactly_once.specs.FurtherLaws.ModesAndFloors.{IsEnded}
-use Rattle.exactly_once.specs.FurtherLaws.StoreBound.{Finishes}
 use Rattle.exactly_once.specs.Induction.Invariant.{World, records, InvariantHolds}
-use Rattle.exactly_once.specs.FurtherLaws.Words.{values_only, IsAmong}
+use Rattle.exactly_once.specs.FurtherLaws.Words.{values_only}
 use Rattle.exactly_once.specs.Induction.OpeningHolds.{world_of}
 use Rattle.exactly_once.specs.Induction.SoundLogs.{AllMayFollow}
 use Rattle.exactly_once.specs.FurtherLaws.StepRecords.{has_paths, IsWellFormed, is_step_of}
 use Rattle.exactly_once.proofs.Log.HistoryTails.{Tail, here}
 use Rattle.exactly_once.proofs.Log.ListElements.{each_tail}
-use Rattle.exactly_once.proofs.Log.LiveRecords.{Under, live_under, under_tail, tails_by_seq}
-use Rattle.exactly_once.proofs.Log.ModesAndFloors.{ended_later}
 use Rattle.exactly_once.proofs.Log.MapChanges.{same_key, same_itself}
 use Rattle.exactly_once.proofs.Invocations.NextRecord.{stands, Does, does, apart, began, operates, ends, unbegun, result_is}
 use Rattle.exactly_once.proofs.Invocations.SamePlace.{no_own_step}
 use Rattle.exactly_once.proofs.Invocations.InitAndCursor.{upto_tail, fit_tail}
 use Rattle.exactly_once.proofs.OldVersions.StepOrigins.{own_log}
 use Rattle.exactly_once.proofs.Invocations.RecordAtPlace.{IsTagged, all_tagged}
-use Rattle.exactly_once.proofs.AfterEvents.EndedInvocations.{not_over}
+use Rattle.exactly_once.proofs.AfterEvents.EndIsLast.{finish_is_last, end_is_last}
+pub use Rattle.exactly_once.proofs.AfterEvents.EndIsLast.{unended_before}
 use Rattle.machine_laws.specs.Ends.{last_tagged, LastIsTagged, finish_in, EndsLast, HoldingEndsLast}
-use Rattle.machine_laws.proofs.Writes.{behind}
 
 -- The last record of a tag.
 
@@ -87,16 +83,6 @@ module _ (setup : Setup) (fs : List Function) (store : Store) (p : List ℕ) whe
       at ih next (operates i step finish reaches is) = own (ap (is_step_of p) step ∙ same_itself p) reaches.unended
       at ih next (ends i outcome body asks is) = own (ap (λ body. is_step_of p (step_of body)) body ∙ same_itself p) asks.reaches.unended
 
-  -- a step record comes only where there is no result yet
-  unended_before : (x : Live Body) (xs : List (Live Body)) (i : ℕ) → AllMayFollow setup fs store (x ∷ xs) → step_of x.holds ≡ Some (p, i) → (stands setup fs store p xs).result ≡ None
-  unended_before x xs i fit step = at (stands setup fs store p (x ∷ xs)) (does setup fs store x xs p fit.0)
-    where
-      at : (next : InvocationState) → Does setup fs store x.seq x.holds xs p next → (stands setup fs store p xs).result ≡ None
-      at next (apart other finish is) = let no_way : true ≡ false = sym (same_itself p) ∙ other (p, i) step in cc
-      at next (began body may is) = ap (λ (st : InvocationState). st.result) (unbegun setup fs store xs p fit.2 may.new)
-      at next (operates i step finish reaches is) = reaches.unended
-      at next (ends i outcome body asks is) = asks.reaches.unended
-
 -- Of a path out of range: no record is of it.
 
 abbrev HasPaths : Live Body → Type 0
@@ -144,29 +130,6 @@ module _ (setup : Setup) (fs : List Function) (w : World) (holds : InvariantHold
     fit : AllMayFollow setup fs store xs
     fit = fit_tail setup fs store xs now part holds.sound.fit
 
-    under : Under (length w.log) xs
-    under = under_tail xs (length w.log) now (live_under w.log) part
-
-    finish_ends : (x : Live Body) (rest : List (Live Body)) → Finishes p xs x → IsEnded p (x ∷ rest)
-    finish_ends x rest finish =
-        ap (λ o. is_some (option_or (result_of p rest) o)) (ap (finish_of p) finish.is_finish ∙ ap (λ t. cond t (Some finish.outcome) None) (same_itself p))
-        ∙ at (result_of p rest)
-      where
-        at : (o : Option Outcome) → is_some (option_or o (Some finish.outcome)) ≡ true
-        at None = refl
-        at (Some r) = refl
-
-    last : (x y : Live Body) (i : ℕ) → Finishes p xs x → IsAmong y xs → step_of y.holds ≡ Some (p, i) → y.seq ≤ x.seq
-    last x y i finish among step = ⊎_elim (λ lt. absurd (never lt)) (λ le. le) (cases_lt x.seq y.seq)
-      where
-        never : x.seq < y.seq → ⊥
-        never lt =
-            let bx = behind x xs finish.among in
-            let by = behind y xs among in
-            let t = tails_by_seq x y bx.rest by.rest (length w.log) xs under bx.tail by.tail lt in
-            let own = fit_tail setup fs store (y ∷ by.rest) xs by.tail fit in
-            not_over setup fs store w.store.fences p by.rest own.2 (ended_later p (x ∷ bx.rest) by.rest t (finish_ends x bx.rest finish)) (unended_before setup fs store p y by.rest i own step)
-
     result : result_of p xs ≡ finish_in p (last_tagged (step_tag p) xs)
     result = at (is_path p) refl
       where
@@ -177,10 +140,11 @@ module _ (setup : Setup) (fs : List Function) (w : World) (holds : InvariantHold
             no_result p e xs paths ∙ sym (none_in p e (step_tag p) xs paths)
 
     ends_last : EndsLast p xs
-    ends_last = record { last = last; result = result }
+    ends_last = record { last = finish_is_last setup fs w holds p xs part; result = result }
 
 pub holding_ends_last : HoldingEndsLast
 holding_ends_last setup fs m path good = record {
   whole = ends_last setup fs (world_of m) good.holds path (live_records m) here;
   seen = λ engine. ends_last setup fs (world_of m) good.holds path _ (upto_tail (position m engine) (live_records m));
+  ordered = end_is_last setup fs m good path;
 }

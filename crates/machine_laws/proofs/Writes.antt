@@ -13,30 +13,16 @@ use Rattle.boki_model.specs.Writes.{Store, logged_write, is_write_named, is_sett
 use Rattle.boki_machine.specs.Decided.{InvocationState}
 use Rattle.exactly_once.specs.FurtherLaws.StoreBound.{WritesName}
 use Rattle.exactly_once.specs.Induction.Invariant.{World, records, IsNext, InvariantHolds}
-use Rattle.exactly_once.specs.FurtherLaws.Words.{values_only, IsAmong}
+use Rattle.exactly_once.specs.FurtherLaws.Words.{values_only}
 use Rattle.exactly_once.specs.FurtherLaws.StepRecords.{is_step_of, step_seqnums}
 use Rattle.exactly_once.proofs.Log.HistoryTails.{Tail, here, there, shorter}
+pub use Rattle.exactly_once.proofs.Log.ListElements.{Behind, behind, among_tail}
 use Rattle.exactly_once.proofs.Log.LiveRecords.{live_under, tails_by_seq}
 use Rattle.exactly_once.proofs.Log.MapChanges.{same_itself}
 use Rattle.exactly_once.proofs.Invariant.NamedValue.{one_name}
 use Rattle.exactly_once.proofs.Invocations.SamePlace.{place_is}
 use Rattle.exactly_once.proofs.Invocations.InitAndCursor.{one_record, fit_tail}
 use Rattle.exactly_once.proofs.OldVersions.StepOrigins.{origin}
-
--- what lies behind an element
-pub record Behind {A : Type 0} (x : A) (ys : List A) : Type 0 where
-  pub rest : List A
-  pub tail : Tail (x ∷ rest) ys
-
-pub behind : {A : Type 0} (x : A) (ys : List A) → IsAmong x ys → Behind x ys
-behind x [] among = absurd among
-behind x (y ∷ ys) (inl e) = record { rest = ys; tail = subst (λ y. Tail (x ∷ ys) (y ∷ ys)) e here }
-behind x (y ∷ ys) (inr among) = let it = behind x ys among in record { rest = it.rest; tail = there it.tail }
-
--- what is among a part of a list is among the list
-pub among_tail : {A : Type 0} (x : A) (xs ys : List A) → Tail xs ys → IsAmong x xs → IsAmong x ys
-among_tail x xs ys here among = among
-among_tail x xs (y ∷ ys) (there t) among = inr (among_tail x xs ys t among)
 
 -- Names.
 

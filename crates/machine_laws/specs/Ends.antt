@@ -11,6 +11,7 @@ use Rattle.boki_model.specs.Bodies.{step_tag, step_of}
 use Rattle.boki_model.specs.Modes.{finish_of, result_of}
 use Rattle.boki_machine.specs.Machine.{Machine, live_records, view}
 use Rattle.exactly_once.specs.Induction.EventKeeps.{MachineHolds}
+use Rattle.exactly_once.specs.FurtherLaws.EndedInvocations.{EndIsLast}
 use Rattle.exactly_once.specs.FurtherLaws.StoreBound.{Finishes}
 use Rattle.exactly_once.specs.FurtherLaws.Words.{IsAmong}
 
@@ -42,10 +43,12 @@ pub record EndsLast (path : List ℕ) (records : List (Live Body)) : Type 0 wher
   -- so the result of the path is that in the last record of its step tag
   pub result : result_of path records ≡ finish_in path (last_tagged (step_tag path) records)
 
--- The live records of a machine that holds the invariant, and those that an engine sees; of any path.
+-- The live records of a machine that holds the invariant, and those that an engine sees; of any path. Behind a Finish
+-- each step record of the ordered list is dead, also within one cut.
 pub record FinishesAreLast (m : Machine) (path : List ℕ) : Type 0 where
   pub whole : EndsLast path (live_records m)
   pub seen : (engine : ℕ) → EndsLast path (view m engine)
+  pub ordered : EndIsLast m path
 
 abbrev pub HoldingEndsLast : Type 0
 HoldingEndsLast =

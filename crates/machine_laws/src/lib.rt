@@ -1,20 +1,25 @@
 //! Laws of the machine that the runtime's code needs, apart from any code: what it owes to the calls of the layers
 //! below where it runs a step, and what spares it a search. Each function here has an empty body, and a law as its
 //! contract; the definitions are in `specs/`. Each law is of any machine that holds the invariant, `MachineHolds` of
-//! `exactly_once`, but those on texts, which have an invariant of their own.
+//! `exactly_once`, but those on texts, which have an invariant of their own, and those of any events that a plan can
+//! have (`AfterEvents`).
 #![tactic(auto)]
 
 ghost use Rattle.std.specs.Prelude.{ℕ};
 ghost use Rattle.boki_types.specs.declared.body.Body.{Body};
+ghost use Rattle.exactly_once.specs.FurtherLaws.AnyEvents.{AfterEvents};
 ghost use Rattle.machine_laws.specs.Adopts.{AdoptsItsAsk};
 ghost use Rattle.machine_laws.specs.Attempts.{FoundAreAmong, FloorIsWithin};
 ghost use Rattle.machine_laws.specs.Children.{ChildrenHavePaths};
 ghost use Rattle.machine_laws.specs.Ends.{LastIsTagged, HoldingEndsLast};
 ghost use Rattle.machine_laws.specs.Kept.{HoldingKeepsWrites, EventsKeepWrites};
+ghost use Rattle.machine_laws.specs.Laws.{WhereHolding};
 ghost use Rattle.machine_laws.specs.Open.{OpenAreAbove};
 ghost use Rattle.machine_laws.specs.Own.{HoldingAreWellFormed};
+ghost use Rattle.machine_laws.specs.Scripts.{DecidedAreScripts};
 ghost use Rattle.machine_laws.specs.Settled.{SettledIsBelow};
 ghost use Rattle.machine_laws.specs.Texts.{OpeningIsText, EventsKeepTexts, EnginesSeeTexts};
+ghost use Rattle.machine_laws.specs.Trims.{OpeningIsChosen, EventsKeepChosen, ChosenCount, EveryTrimCounts};
 ghost use Rattle.machine_laws.specs.Views.{ViewsReadTheWhole, RunningSeeTheirCursor};
 
 /// An attempt that is found under a number is one of the machine's.
@@ -99,4 +104,36 @@ pub fn events_keep_texts()
 /// What an engine answers of users' records and of auxiliary data is text.
 pub fn engines_see_texts()
     ensures { EnginesSeeTexts }
+{}
+
+/// **Decided answers are the script's.** Each answers the operation that the invocation's script asks after the answers
+/// before it, and is of its kind. Each live step record of the invocation has as its index the number of answers
+/// decided before it, plus 1, and is of what the script asks after them.
+pub fn decided_are_scripts()
+    ensures { AfterEvents DecidedAreScripts }
+{}
+
+/// The same, wherever the invariant holds.
+pub fn holding_decide_scripts()
+    ensures { WhereHolding DecidedAreScripts }
+{}
+
+/// At the opening there is no Trim.
+pub fn opening_is_chosen()
+    ensures { OpeningIsChosen }
+{}
+
+/// Every event keeps it that the bound of each Trim was chosen by an engine's view.
+pub fn events_keep_chosen()
+    ensures { EventsKeepChosen }
+{}
+
+/// So each Trim counts, in the whole list and in what an engine sees: the floor is the greatest of their bounds.
+pub fn chosen_count()
+    ensures { ChosenCount }
+{}
+
+/// **Every Trim counts**, wherever it was ordered, in the machine after any events that a plan can have.
+pub fn trims_count()
+    ensures { AfterEvents EveryTrimCounts }
 {}

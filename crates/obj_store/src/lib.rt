@@ -19,3 +19,4 @@ mod writes;
 
 pub use crate::answers::{Logged, Read};
 pub use crate::store::ObjStore;
+pub use boki_types::{Answered, Fenced, GroupAnswer, Name, Named, Put, Settled};

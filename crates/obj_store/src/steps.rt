@@ -93,6 +93,27 @@ pub fn last_upto<'a>(
     }
 }
 
+/// The value of the last write of an object whose first number is below `at`, among those that are kept and the logged one, where
+/// `at` isn't below the floor.
+pub fn last_before<'a>(
+    objects: &'a Objects,
+    named: &'a Names,
+    floor: Seqnum,
+    key: &str,
+    at: Seqnum,
+    logged: Option<&Logged<'a>>,
+) -> Option<&'a Value>
+    ensures { Ascend (object_in key.now objects.now.entries).versions
+        → fenced_answer (option_copied result)
+        ≡ value_before floor.0 at.0 (object_in key.now objects.now.entries) named.now.entries
+        (option_map logged_parts (option_copied logged.entry)) }
+{
+    if at.0 == 0 {
+        return None;
+    }
+    last_upto(objects, named, floor, key, at.0 - 1, logged)
+}
+
 // A copy of the value of the last of a write that is kept and a logged one, which counts where it isn't below the floor.
 fn copy_last(
     kept: Option<&PositionedWrite>,

@@ -1,4 +1,4 @@
-ghost use Rattle.std.specs.Prelude.{◌≡◌, ◌<◌, ◌≤◌, ◌↔◌, ℕ, suc, List, [], ◌∷◌, true, false, not, bytes_eq, nat_lt, option_copied, IfOk, OnOk, OnErr, IsOk};
+ghost use Rattle.std.specs.Prelude.{◌≡◌, ◌<◌, ◌≤◌, ◌↔◌, ℕ, suc, List, [], ◌∷◌, true, false, not, bytes_eq, nat_lt, option_copied, is_some, IfOk, OnOk, OnErr, IsOk};
 ghost use Rattle.std.specs.List.{IsDistinct};
 ghost use Rattle.std.specs.Map.{keys_of};
 ghost use Rattle.boki_types.specs.declared.body.Body.{Body};
@@ -7,6 +7,7 @@ ghost use Rattle.boki_model.specs.LogLaws.{FallBelow};
 ghost use Rattle.boki_model.specs.Writes as model;
 ghost use Rattle.boki_model.specs.Writes.{Store};
 ghost use Rattle.obj_store.specs.Answers.{IsLastLogged, fenced_of};
+ghost use Rattle.obj_store.specs.Kept.{value_under};
 ghost use Rattle.obj_store.specs.Keys.{keys_in};
 ghost use Rattle.obj_store.specs.StandsFor.{StandsFor, IsUnchanged, KeysDiffer};
 ghost use Rattle.obj_store.specs.Sweeps.{AllHaveValues, logged_between};
@@ -68,6 +69,8 @@ impl ObjStore {
     pub fn put_named(&mut self, name: Name, cursor: Seqnum, value: &Value) -> Result<Named, Memory>
         ensures ok { IfOk result (λ a. (m : Store) (records : List (Live Body)) → StandsFor self.old m records → (model.is_settled name m.floor records ≡ true → cursor.0 < m.floor) → (a ≡ model.put_named name cursor.0 value.now m) × StandsFor self.new (model.after_put_named name cursor.0 value.now m) records) }
         ensures err { OnErr result (IsUnchanged self.old self.new) }
+        ensures gone { cursor.0 < self.old.floor → (result ≡ Ok Named.Gone) × (self.new ≡ self.old) }
+        ensures there { is_some (value_under name self.old.named) ≡ true → IsOk result }
     {
         if cursor.0 < self.floor.0 {
             return Ok(Named::Gone);
@@ -142,6 +145,26 @@ impl ObjStore {
         }
     }
 
+    /// What a fenced read at a marker answers, with no fence raised: the value of the last write of an object whose first number is
+    /// below the marker, among those of the store and the logged one, or Missing where there is none. Gone comes exactly where the
+    /// marker is below the floor.
+    ///
+    /// It needs to be told the last live logged write of the object with a seqnum below the marker. It takes no memory.
+    pub fn read_before<'a>(&'a self, key: &str, at: Seqnum, logged: Option<&Logged<'a>>) -> Read<'a>
+        ensures read { (m : Store) (records : List (Live Body)) → StandsFor self.now m records
+            → IsLastLogged key.now at.0 self.now records (option_copied logged.entry)
+            → fenced_of result ≡ model.read_fenced key.now at.0 m records }
+        ensures gone { at.0 < self.now.floor → result ≡ Read.Gone }
+    {
+        if at.0 < self.floor.0 {
+            return Read::Gone;
+        }
+        match steps::last_before(&self.objects, &self.named, self.floor, key, at, logged) {
+            Some(value) => Read::Found(value),
+            None => Read::Missing,
+        }
+    }
+
     /// A fenced read at a marker: the value of the last write of an object whose first number is below the marker, among those of
     /// the store and the logged one, or Missing where there is none. The object's fence becomes at least the marker. Gone comes
     /// exactly where the marker is below the floor; then the fence is unchanged.
@@ -181,12 +204,14 @@ impl ObjStore {
     }
 
     /// Lifts the floor. Of each object the last write below it is kept, and the other writes below it are dropped, and so are the
-    /// values under the names of the settled writes. Fences stay. A floor not above the old one changes nothing.
+    /// values under the names of the settled writes. Fences stay. A floor not above the old one changes nothing, whatever is given,
+    /// and takes no memory.
     ///
-    /// It needs all live logged writes from the old floor up to below the new one, from the oldest on, each with its value: that of
+    /// Else it needs all live logged writes from the old floor up to below the new one, from the oldest on, each with its value: that of
     /// its record, or else the one that is kept under its name. After `Memory` the store is unchanged.
     pub fn sweep(&mut self, floor: Seqnum, settled: &[Settled]) -> Result<(), Memory>
         ensures ok { OnOk result ((m : Store) (records : List (Live Body)) → StandsFor self.old m records → settled.now ≡ logged_between m.floor floor.0 records → AllHaveValues self.old.named settled.now → StandsFor self.new (model.after_sweep floor.0 m) records) }
+        ensures not_above { floor.0 ≤ self.old.floor → (result ≡ Ok tt) × (self.new ≡ self.old) }
         ensures err { OnErr result (IsUnchanged self.old self.new) }
     {
         if floor.0 <= self.floor.0 {

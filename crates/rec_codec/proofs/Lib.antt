@@ -11,3 +11,4 @@ pub mod TrimLemmas
 pub mod Adding
 pub mod Ranges
 pub mod KindLemmas
+pub mod StepLemmas

@@ -15,6 +15,15 @@ abbrev pub ReadsAs : {X Y : Type 0} → (X → Y) → Result X Stop → Result Y
 ReadsAs view (Ok x) reading = reading ≡ Ok (view x)
 ReadsAs view (Err e) reading = StopsAs e reading
 
+-- It never wants for memory.
+abbrev pub IsLeft : Stop → Type 0
+IsLeft stop.Memory = ⊥
+IsLeft (stop.Left left) = Unit {0}
+
+abbrev pub NeedsNoMemory : {X : Type 0} → Result X Stop → Type 0
+NeedsNoMemory (Ok x) = Unit {0}
+NeedsNoMemory (Err e) = IsLeft e
+
 -- The same of a whole record, whose fault tells the offset.
 abbrev pub IsFault : {Y : Type 0} → DecodeFault → Result Y ℕ → Type 0
 IsFault fault.Memory reading = Unit {0}

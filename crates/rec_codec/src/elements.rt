@@ -1,13 +1,14 @@
 ghost use Rattle.std.specs.Prelude.{◌≡◌, ◌≤◌, length, IfOk};
 ghost use Rattle.std.specs.Int.{w16, w32};
-ghost use Rattle.rec_codec.specs.Answers.{ReadsAs};
+ghost use Rattle.rec_codec.specs.Answers.{ReadsAs, NeedsNoMemory};
 ghost use Rattle.rec_codec.specs.Reading.{byte_at, number_at, word_at, index_at, ordinal_at, tag_at, piece_at, count_at, is_text, is_key, is_function, text_at, value_at, trap_of, trap_at, outcome_at, target_at, write_at};
 
 use crate::fault::Stop;
 
 /// A byte.
 pub(crate) fn byte(bytes: &[u8]) -> Result<(u8, &[u8]), Stop>
-    ensures { ReadsAs (λ x. (x.0, x.1.now)) result (byte_at bytes.now) }
+    ensures read { ReadsAs (λ x. (x.0, x.1.now)) result (byte_at bytes.now) }
+    ensures memory { NeedsNoMemory result }
 {
     match bytes {
         [] => Err(Stop::Left(0)),
@@ -29,7 +30,8 @@ fn short(bytes: &[u8]) -> Result<(u16, &[u8]), Stop>
 
 /// A number of four bytes.
 pub(crate) fn part(bytes: &[u8]) -> Result<(u32, &[u8]), Stop>
-    ensures { ReadsAs (λ x. (x.0, x.1.now)) result (number_at w32 bytes.now) }
+    ensures read { ReadsAs (λ x. (x.0, x.1.now)) result (number_at w32 bytes.now) }
+    ensures memory { NeedsNoMemory result }
 {
     if bytes.len() < 4 {
         return Err(Stop::Left(bytes.len()));
@@ -41,7 +43,8 @@ pub(crate) fn part(bytes: &[u8]) -> Result<(u32, &[u8]), Stop>
 
 /// A number of eight bytes.
 pub(crate) fn word(bytes: &[u8]) -> Result<(u64, &[u8]), Stop>
-    ensures { ReadsAs (λ x. (x.0, x.1.now)) result (word_at bytes.now) }
+    ensures read { ReadsAs (λ x. (x.0, x.1.now)) result (word_at bytes.now) }
+    ensures memory { NeedsNoMemory result }
 {
     if bytes.len() < 8 {
         return Err(Stop::Left(bytes.len()));
@@ -94,6 +97,7 @@ pub(crate) fn tag(bytes: &[u8]) -> Result<(u64, &[u8]), Stop>
 pub(crate) fn count(least: u8, most: u8, bytes: &[u8]) -> Result<(u8, &[u8]), Stop>
     ensures read { ReadsAs (λ x. (x.0, x.1.now)) result (count_at least most bytes.now) }
     ensures bounds { IfOk result (λ x. (least ≤ x.0) × (x.0 ≤ most)) }
+    ensures memory { NeedsNoMemory result }
 {
     let (number, rest) = byte(bytes)?;
     if number < least || most < number {

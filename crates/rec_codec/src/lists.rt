@@ -1,5 +1,5 @@
 ghost use Rattle.std.specs.Prelude.{◌≡◌, ◌+◌, ◌<◌, ◌≤◌, [], ◌∷◌, length, IfOk};
-ghost use Rattle.rec_codec.specs.Answers.{ReadsAs, with_front, with_one};
+ghost use Rattle.rec_codec.specs.Answers.{ReadsAs, NeedsNoMemory, with_front, with_one};
 ghost use Rattle.rec_codec.specs.Reading.{is_key, text_at, value_at, write_at, many_at, list_at, request_at, spawn_at, path_at};
 
 use crate::elements::{count, part};
@@ -13,6 +13,7 @@ use std::alloc::Global;
 fn request(bytes: &mut &[u8]) -> Result<Path, Stop>
     ensures read { ReadsAs (λ x. (x, bytes.new.now)) result (with_one [] (request_at bytes.old.now)) }
     ensures one { IfOk result (λ path. length path ≡ 1) }
+    ensures memory { NeedsNoMemory result }
 {
     let (number, rest) = part(bytes)?;
     match Path::request(number) {
@@ -28,7 +29,8 @@ fn request(bytes: &mut &[u8]) -> Result<Path, Stop>
 #[tactic(auto, unfolding(crate::specs::Reading::spawn_at))]
 fn spawn(path: Path, bytes: &mut &[u8]) -> Result<Path, Stop>
     requires { length path < 4 }
-    ensures { ReadsAs (λ x. (x, bytes.new.now)) result (with_one path (spawn_at bytes.old.now)) }
+    ensures read { ReadsAs (λ x. (x, bytes.new.now)) result (with_one path (spawn_at bytes.old.now)) }
+    ensures memory { NeedsNoMemory result }
 {
     let (ordinal, rest) = part(bytes)?;
     match path.child(ordinal) {
@@ -43,7 +45,8 @@ fn spawn(path: Path, bytes: &mut &[u8]) -> Result<Path, Stop>
 /// Takes so many ordinals of spawns, and adds them to a path.
 fn spawns(path: Path, count: u8, bytes: &mut &[u8]) -> Result<Path, Stop>
     requires { length path + count ≤ 4 }
-    ensures { ReadsAs (λ x. (x, bytes.new.now)) result (with_front path (many_at spawn_at count bytes.old.now)) }
+    ensures read { ReadsAs (λ x. (x, bytes.new.now)) result (with_front path (many_at spawn_at count bytes.old.now)) }
+    ensures memory { NeedsNoMemory result }
 {
     let mut whole = path;
     for _ in 0..count {
@@ -56,7 +59,8 @@ fn spawns(path: Path, count: u8, bytes: &mut &[u8]) -> Result<Path, Stop>
 #[tactic(auto, unfolding(crate::specs::Reading::path_at))]
 pub(crate) fn path(most: u8, bytes: &mut &[u8]) -> Result<Path, Stop>
     requires { most ≤ 4 }
-    ensures { ReadsAs (λ x. (x, bytes.new.now)) result (path_at most bytes.old.now) }
+    ensures read { ReadsAs (λ x. (x, bytes.new.now)) result (path_at most bytes.old.now) }
+    ensures memory { NeedsNoMemory result }
 {
     let (count, rest) = count(1, most, bytes)?;
     *bytes = rest;

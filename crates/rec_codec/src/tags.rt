@@ -24,8 +24,7 @@ fn name_hash_of(name: &str) -> u64
 
 /// The tag of a class and a number below 2^56.
 fn tag_of(class: u8, number: u64) -> Tag
-    requires class { class ≤ 9 }
-    requires number { number < 2 ^ 56 }
+    requires { number < 2 ^ 56 }
     ensures { result ≡ bodies.tag_of class number }
 {
     Tag(u64::from(class) * 72_057_594_037_927_936 + number)
@@ -33,9 +32,8 @@ fn tag_of(class: u8, number: u64) -> Tag
 
 /// The tag of a name, of the class of objects or of queues.
 ///
-/// It needs a class of at most 9, and takes no memory. Names may share a tag.
+/// It takes any class and any name, and no memory. Names may share a tag.
 pub fn key_tag(class: u8, name: &str) -> Tag
-    requires { class ≤ 9 }
     ensures { result ≡ bodies.tag_of class (bodies.name_hash name.now) }
 {
     tag_of(class, name_hash_of(name))

@@ -7,7 +7,7 @@ use Rattle.boki_types.specs.declared.plan.Setup.{Setup}
 use Rattle.boki_types.specs.declared.plan.Plan.{Plan}
 use Rattle.boki_types.specs.declared.program.Function.{Function}
 use Rattle.boki_model.specs.Plans.{is_event, is_item, is_plan, events, total_events}
-use Rattle.boki_machine.specs.Machine.{Machine, initial_machine}
+use Rattle.boki_machine.specs.Machine.{Machine, log, initial_machine}
 use Rattle.nemesis_types.specs.Kept.{NumberedNemesis}
 use Rattle.exactly_once.specs.FurtherLaws.LogEconomy.{EndedAreEconomic}
 use Rattle.exactly_once.specs.FurtherLaws.EndedInvocations.{EndedHaveNoEffect}
@@ -16,6 +16,7 @@ use Rattle.exactly_once.specs.Theorem.ExactlyOnce.{IsExact}
 use Rattle.exactly_once.specs.FurtherLaws.StoreBound.{HeldOnce}
 use Rattle.exactly_once.specs.FurtherLaws.DecidedAnswers.{DecidedAnswersStay}
 use Rattle.exactly_once.specs.FurtherLaws.AnyEvents.{AfterEvents, DuplicatesAgree}
+use Rattle.exactly_once.proofs.Log.ModesAndFloors.{modes_exclude}
 use Rattle.exactly_once.proofs.OldVersions.VersionKeeps.{versions_keep}
 use Rattle.exactly_once.proofs.Attempts.StepKeeps.{moves_keep}
 use Rattle.exactly_once.proofs.Attempts.LostAnswerKeeps.{misses_keep}
@@ -74,6 +75,7 @@ runs_are_exact plan kept ok =
       decided = after_run DecidedAnswersStay (decided_answers_stay keep) plan kept ok;
       economic = after_run EndedAreEconomic (ended_are_economic keep) plan kept ok;
       left = after_run EndedHaveNoEffect (ended_are_left keep) plan kept ok;
+      modes = modes_exclude setup.mode (log (run_with plan kept).after.machine);
       held = after_run HeldOnce (held_once keep) plan kept ok;
     }
 

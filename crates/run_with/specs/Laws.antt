@@ -10,10 +10,11 @@ use Rattle.boki_types.specs.declared.turn.Report.{Report}
 use Rattle.boki_model.specs.Plans.{is_event, is_plan, events}
 use Rattle.boki_machine.specs.Ideal.{Ideal, run_turns}
 use Rattle.boki_machine.specs.Ideal as run_turns
-use Rattle.boki_machine.specs.Machine.{Machine, initial_machine, apply_events, run_plan}
+use Rattle.boki_machine.specs.Machine.{Machine, live_records, initial_machine, apply_events, run_plan}
 use Rattle.boki_machine.specs.Reports.{report, ideal_report}
 use Rattle.exactly_once.specs.FurtherLaws.LogEconomy.{EndedAreEconomic}
 use Rattle.exactly_once.specs.FurtherLaws.EndedInvocations.{EndedHaveNoEffect}
+use Rattle.exactly_once.specs.FurtherLaws.ModesAndFloors.{NeverBeside}
 use Rattle.exactly_once.specs.Theorem.ExactlyOnce.{IsExact}
 use Rattle.exactly_once.specs.FurtherLaws.StoreBound.{HeldOnce}
 use Rattle.exactly_once.specs.FurtherLaws.DecidedAnswers.{DecidedAnswersStay}
@@ -72,6 +73,8 @@ pub record RunGuarantees (plan : Plan) (m : Machine) : Type 0 where
   -- and nothing that its attempts still do counts
   pub economic : EndedAreEconomic plan.setup plan.program.functions m
   pub left : EndedHaveNoEffect plan.setup plan.program.functions m
+  -- invocations of mode R and of mode W never run beside each other
+  pub modes : NeverBeside plan.setup.mode (live_records m)
   -- the store holds each key, version and name once, no version below the floor, and no named value whose
   -- write lies below it
   pub held : HeldOnce plan.setup plan.program.functions m

@@ -26,8 +26,9 @@ pub fn performed_are_few()
 {}
 
 /// **Exactly once, whatever the nemeses do**: the failure-free execution of the turns is defined, and its
-/// results, objects, queues and store names are those of the machine's report; and the other laws of machines
-/// behind events hold too.
+/// results, objects, queues and store names are those of the machine's report; and the six other laws of machines
+/// behind events hold too: duplicates agree, decided answers stay, the log is economic, ended invocations are left
+/// alone, invocations of mode R and of mode W never run beside each other, and the store holds each thing once.
 pub fn runs_are_exact()
     ensures { RunsAreExact }
 {}

@@ -10,7 +10,7 @@ use Rattle.boki_model.specs.Bodies.{is_short_list, is_identifier}
 use Rattle.boki_model.specs.Maps.{has}
 use Rattle.boki_model.specs.Plans.{distinct, has_arity, known_function, is_stmt, are_stmts, is_balanced, is_function, function_names, variables_set}
 use Rattle.boki_machine.specs.Step.{name_or_empty, function_name}
-use Rattle.exactly_once.proofs.Log.MapChanges.{same_itself, other_way}
+use Rattle.exactly_once.proofs.Asking.FunctionNames.{found_itself}
 use Rattle.script_ranges.specs.Asks.{AreFunctions}
 use Rattle.script_ranges.proofs.Each.{SomeHas}
 
@@ -48,26 +48,6 @@ at_has P (suc n) (g ∷ gs) all = at_has P n gs all.1
 functions_of : (fs gs : List Function) → list_all (is_function fs) gs ≡ true → AllByRecursion (IsFunction fs) gs
 functions_of fs [] are = tt
 functions_of fs (g ∷ gs) are = let parts = and_parts (is_function fs g) (list_all (is_function fs) gs) are in (function_of fs g parts.0, functions_of fs gs parts.1)
-
--- a function's number is found by its name, where no name stands twice
-other_name : (f : Function) (n : ℕ) (gs : List Function) (g : Function) → has f.name (function_names gs) ≡ false → function_at n gs ≡ Some g → bytes_eq g.name f.name ≡ false
-other_name f n [] g apart is = cc
-other_name f zero (h ∷ gs) g apart is =
-    let same : h ≡ g = cc in
-    subst (λ (g : Function). bytes_eq g.name f.name ≡ false) same (other_way f.name h.name (or_parts (bytes_eq f.name h.name) (has f.name (function_names gs)) apart).0)
-other_name f (suc n) (h ∷ gs) g apart is = other_name f n gs g (or_parts (bytes_eq f.name h.name) (has f.name (function_names gs)) apart).1 is
-
-unnegated : (b : Bool) → not b ≡ true → b ≡ false
-unnegated true e = sym e
-unnegated false e = refl
-
-found_itself : (gs : List Function) (n : ℕ) (g : Function) → distinct (function_names gs) ≡ true → function_at n gs ≡ Some g → find g.name gs ≡ Some n
-found_itself [] n g apart is = cc
-found_itself (f ∷ gs) zero g apart is = let same : f ≡ g = cc in subst (λ (g : Function). find g.name (f ∷ gs) ≡ Some 0) same (ap (λ b. cond b (Some 0) (option_map suc (find f.name gs))) (same_itself f.name))
-found_itself (f ∷ gs) (suc n) g apart is =
-    let parts = and_parts (not (has f.name (function_names gs))) (distinct (function_names gs)) apart in
-    let other = other_name f n gs g (unnegated (has f.name (function_names gs)) parts.0) is in
-    ap (λ b. cond b (Some 0) (option_map suc (find g.name gs))) other ∙ ap (option_map suc) (found_itself gs n g parts.1 is)
 
 module _ (fs : List Function) (are : AreFunctions fs) where
   parts : ((leb (length fs) 256 && distinct (function_names fs)) ≡ true) × (list_all (is_function fs) fs ≡ true)

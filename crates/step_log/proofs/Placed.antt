@@ -40,6 +40,9 @@ each_at P seq x (y ∷ ys) all is = at (each_at P seq x ys all.1) (eqb seq (suc 
     at ih true e = subst P (let same : y ≡ x = cc in same) all.0
     at ih false e = ih e
 
+pub is_spelled_there : (kept : BookState) (seq : ℕ) (r : Record) → Sound kept → at_seq seq (ordered kept) ≡ Some r → IsSpelled r
+is_spelled_there kept seq r sound is = each_at IsSpelled seq r (ordered kept) (each_ordered IsSpelled kept.shards kept.vectors sound) is
+
 pub is_ranged : (kept : BookState) (seq : ℕ) (r : Record) (body : Body) → Sound kept → at_seq seq (ordered kept) ≡ Some r → body ≡ body_of r.bytes → IsTrue (in_range body)
 is_ranged kept seq r body sound is said =
     let spelled = each_at IsSpelled seq r (ordered kept) (each_ordered IsSpelled kept.shards kept.vectors sound) is in

@@ -62,11 +62,11 @@ some_first n records (x ∷ xs) w fall e = at (first_open records xs) refl (some
         record { low = omega (arith, same, fall.1); none = (high_none w records x.seq (init_path x.holds) (omega (arith, same)), none_first records xs is w) }
 
 -- what an engine may trim
-record MayTrim (position : ℕ) (view : List (Live Body)) (w : ℕ) : Type 0 where
+pub record MayTrim (position : ℕ) (view : List (Live Body)) (w : ℕ) : Type 0 where
   pub low : w ≤ suc position
   pub none : NoneOpen w view view
 
-may_trim_is : (position : ℕ) (view : List (Live Body)) → FallBelow (suc position) view → MayTrim position view (trim_limit position view)
+pub may_trim_is : (position : ℕ) (view : List (Live Body)) → FallBelow (suc position) view → MayTrim position view (trim_limit position view)
 may_trim_is position view fall = at (first_open view view) refl
   where
     at : (o : Option ℕ) → first_open view view ≡ o → MayTrim position view (unwrap_or o (suc position))

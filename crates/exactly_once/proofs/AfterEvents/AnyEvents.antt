@@ -15,6 +15,7 @@ use Rattle.exactly_once.proofs.AfterEvents.DuplicatesAgree.{all_agree}
 use Rattle.exactly_once.proofs.AfterEvents.VersionEvents.{event_puts}
 use Rattle.exactly_once.proofs.AfterEvents.LogEconomy.{economic}
 use Rattle.exactly_once.proofs.AfterEvents.EndedInvocations.{dead, step_leaves, miss_leaves, gone_only}
+use Rattle.exactly_once.proofs.AfterEvents.EndIsLast.{end_is_last}
 
 module _ (keep : EventsKeepInvariant) where
   pub after_events : (Law : Setup → List Function → Machine → Type 0) → ((setup : Setup) (fs : List Function) (m : Machine) → MachineHolds setup fs m → Law setup fs m) → AfterEvents Law
@@ -34,6 +35,7 @@ module _ (keep : EventsKeepInvariant) where
         };
         dead = dead setup fs w good.holds;
         gone = gone_only setup fs w good.holds;
+        end = end_is_last setup fs m good;
       })
 
   pub ended_are_economic : AfterEvents EndedAreEconomic

@@ -29,25 +29,25 @@ use Rattle.exactly_once.proofs.OldVersions.StepOrigins.{IsLogged, origin}
 -- The first elements.
 
 module _ {A : Type 0} where
-  tail_shorter : (us vs : List A) → Tail us vs → length us ≤ length vs
+  pub tail_shorter : (us vs : List A) → Tail us vs → length us ≤ length vs
   tail_shorter us vs here = omega arith
   tail_shorter us (v ∷ vs) (there t) = let le = tail_shorter us vs t in omega (arith, le)
 
+  pub none_dropped : (us : List A) → drop 0 us ≡ us
+  none_dropped [] = refl
+  none_dropped (u ∷ us) = refl
+
   pub oldest_tail : (us vs : List A) → Tail us vs → oldest (length us) vs ≡ us
   oldest_tail us vs here = ap (λ n. drop n us) (let e : length us - length us ≡ 0 = omega arith in e) ∙ none_dropped us
-    where
-      none_dropped : (us : List A) → drop 0 us ≡ us
-      none_dropped [] = refl
-      none_dropped (u ∷ us) = refl
   oldest_tail us (v ∷ vs) (there t) =
       let le = tail_shorter us vs t in
       ap (λ n. drop n (v ∷ vs)) (let e : suc (length vs) - length us ≡ suc (length vs - length us) = omega (arith, le) in e) ∙ oldest_tail us vs t
 
-  tail_none : (vs : List A) → Tail [] vs
+  pub tail_none : (vs : List A) → Tail [] vs
   tail_none [] = here
   tail_none (v ∷ vs) = there (tail_none vs)
 
-and_tail : (o : Option Answer) (l : List Answer) → Tail l (add_answer o l)
+pub and_tail : (o : Option Answer) (l : List Answer) → Tail l (add_answer o l)
 and_tail None l = here
 and_tail (Some x) l = there here
 
@@ -57,6 +57,18 @@ more_tail fs store xs p st (suc d) n m e =
     subst (λ m. Tail (with_free_answers fs store xs p st n) (with_free_answers fs store xs p st m)) (let same : suc (d + n) ≡ m = omega (arith, e) in same)
     (longer (more_tail fs store xs p st d n (d + n) refl)
     (and_tail (free_answer store xs st.cursor (length (with_free_answers fs store xs p st (d + n)) - length st.answers) st.mode (asked_at fs p st (with_free_answers fs store xs p st (d + n)))) (with_free_answers fs store xs p st (d + n))))
+
+-- what is decided of an invocation that has begun
+pub decided_begun : (setup : Setup) (fs : List Function) (store : Store) (xs : List (Live Body)) (p : List ℕ) (n : ℕ) → (stands setup fs store p xs).begun ≡ true → let st = stands setup fs store p xs in first_decided_answers setup fs store xs p n ≡ oldest n (with_free_answers fs store xs p st (n - length st.answers))
+decided_begun setup fs store xs p n begun =
+    let st = stands setup fs store p xs in
+    ap (λ t. cond t (oldest n (with_free_answers fs store xs p st (n - length st.answers))) []) begun
+
+-- and nothing is of one that hasn't
+pub unbegun_decides : (setup : Setup) (fs : List Function) (store : Store) (xs : List (Live Body)) (p : List ℕ) (n : ℕ) → (stands setup fs store p xs).begun ≡ false → first_decided_answers setup fs store xs p n ≡ []
+unbegun_decides setup fs store xs p n new =
+    let st = stands setup fs store p xs in
+    ap (λ t. cond t (oldest n (with_free_answers fs store xs p st (n - length st.answers))) []) new
 
 -- An attempt that follows its invocation, and what the invocation decides later.
 
@@ -158,16 +170,23 @@ module _ (setup : Setup) (fs : List Function) (w : World) (holds : InvariantHold
       }
 
   agrees : a.answers ≡ first_decided_answers setup fs store now a.path (length a.answers)
-  agrees = ⊎_elim here_still (λ t. gone_on t) (goes now (upto_tail a.cursor now) here).either
+  agrees =
+      let g = goes now (upto_tail a.cursor now) here in
+      ⊎_elim here_still (λ t. gone_on t) g.either ∙ sym (decided_begun setup fs store now a.path (length a.answers) g.begun)
     where
-      here_still : stands setup fs store a.path now ≡ its → a.answers ≡ first_decided_answers setup fs store now a.path (length a.answers)
+      all_now : List Answer
+      all_now =
+          let st = stands setup fs store a.path now in
+          oldest (length a.answers) (with_free_answers fs store now a.path st (length a.answers - length st.answers))
+
+      here_still : stands setup fs store a.path now ≡ its → a.answers ≡ all_now
       here_still same =
           let count : length a.answers - length its.answers ≡ f.free = (let d = f.decided in omega (arith, d)) in
           subst (λ (st : InvocationState). a.answers ≡ oldest (length a.answers) (with_free_answers fs store now a.path st (length a.answers - length st.answers))) (sym same)
           (subst (λ n. a.answers ≡ oldest (length a.answers) (with_free_answers fs store now a.path its n)) (sym count)
           (sym (ap (oldest (length a.answers)) (over_all f.free ∙ sym f.answers) ∙ oldest_tail a.answers a.answers here)))
 
-      gone_on : Tail a.answers (stands setup fs store a.path now).answers → a.answers ≡ first_decided_answers setup fs store now a.path (length a.answers)
+      gone_on : Tail a.answers (stands setup fs store a.path now).answers → a.answers ≡ all_now
       gone_on t =
           let st = stands setup fs store a.path now in
           let none : length a.answers - length st.answers ≡ 0 = (let le = tail_shorter a.answers st.answers t in omega (arith, le)) in
@@ -181,7 +200,11 @@ module _ (setup : Setup) (fs : List Function) (w : World) (holds : InvariantHold
   fresh_agrees a fresh =
       let st = invocation_state setup fs (values_only w.store) a.path (records w) in
       subst (λ answers. answers ≡ first_decided_answers setup fs (values_only w.store) (records w) a.path (length answers)) (sym fresh.answers)
-      (sym (oldest_tail [] (with_free_answers fs (values_only w.store) (records w) a.path st (0 - length st.answers)) (tail_none _)))
+      (at st.begun (oldest_tail [] (with_free_answers fs (values_only w.store) (records w) a.path st (0 - length st.answers)) (tail_none _)))
+    where
+      at : {l : List Answer} (begun : Bool) → l ≡ [] → [] ≡ cond begun l []
+      at true e = sym e
+      at false e = refl
 
   pub all_agree : (attempts : List Attempt) → AllByRecursion (IsFollowing setup fs (values_only w.store) w.store.fences (length w.log) (records w) w.positions) attempts → AllByRecursion Agrees attempts
   all_agree [] all = tt

@@ -30,7 +30,6 @@ use Rattle.exactly_once.specs.Induction.VersionKeeps.{next_version}
 use Rattle.exactly_once.specs.FurtherLaws.DecidedAnswers.{is_marker, AnswersStay, all_stay, all_but_one}
 use Rattle.exactly_once.proofs.Log.HistoryTails.{Tail, here, shorter}
 use Rattle.exactly_once.proofs.Log.LiveRecords.{live_under, under_tail}
-use Rattle.exactly_once.proofs.Invocations.NextRecord.{unbegun}
 use Rattle.exactly_once.proofs.Invocations.SamePlace.{point_apart, marks_apart, same_marks}
 use Rattle.exactly_once.proofs.Invocations.FreeAnswers.{on_most, on_least, none_in_T}
 use Rattle.exactly_once.proofs.OldVersions.OneVersionMore.{IsSafe, NotInit, more_kept, standing_other}
@@ -44,6 +43,7 @@ use Rattle.exactly_once.proofs.Attempts.ActingAttempt.{following}
 use Rattle.exactly_once.proofs.Asking.OpenTransactions.{same_step}
 use Rattle.exactly_once.proofs.Simulation.OperationTurn.{stands_own}
 use Rattle.exactly_once.proofs.AfterEvents.CountedOperations.{may, asks_at}
+use Rattle.exactly_once.proofs.AfterEvents.DuplicatesAgree.{decided_begun, unbegun_decides}
 use Rattle.exactly_once.proofs.AfterEvents.EndedInvocations.{tail_among, marks_tail}
 
 -- fences are there or not
@@ -236,9 +236,7 @@ module _ (setup : Setup) (fs : List Function) (w : World) (holds : InvariantHold
       let first = u.1 in omega (arith, first, e)
 
   fenced_stay : AreFenced Fences (marked_reads q Now) → (m : ℕ) → length (first_decided_answers setup fs Old Now q m) ≡ m → first_decided_answers setup fs New Now q m ≡ first_decided_answers setup fs Old Now q m
-  fenced_stay fenced m count =
-      let same : new_at Now ≡ st = point_kept setup fs w holds t key value writer q Now here fenced in
-      subst (λ (p : InvocationState). oldest m (with_free_answers fs New Now q p (m - length p.answers)) ≡ oldest m (with_free_answers fs Old Now q st n)) (sym same) (ap (oldest m) (more_kept V Old fs Now q st n (safe st.begun refl)))
+  fenced_stay fenced m count = at st.begun refl
     where
       st : InvocationState
       st = old_at Now
@@ -246,18 +244,29 @@ module _ (setup : Setup) (fs : List Function) (w : World) (holds : InvariantHold
       n : ℕ
       n = m - length st.answers
 
-      long : length (with_free_answers fs Old Now q st n) ≡ n + length st.answers
-      long =
+      answers_of : Store → InvocationState → List Answer
+      answers_of store p = oldest m (with_free_answers fs store Now q p (m - length p.answers))
+
+      same : new_at Now ≡ st
+      same = point_kept setup fs w holds t key value writer q Now here fenced
+
+      long : st.begun ≡ true → length (with_free_answers fs Old Now q st n) ≡ n + length st.answers
+      long begun =
           let l = with_free_answers fs Old Now q st n in
+          let count = sym (ap length (decided_begun setup fs Old Now q m begun)) ∙ count in
           let dropped : length (drop (length l - m) l) ≡ length l - (length l - m) = length-drop (length l - m) l in
           let most = on_most fs Old Now q st n in
           let least = on_least fs Old Now q st n in omega (arith, dropped, count, most, least)
 
-      safe : (u : Bool) → st.begun ≡ u → IsSafe V Old st n
-      safe true e = safe_at setup fs w holds t key value writer q Now n here e long
-      safe false e =
-          subst (λ st. IsSafe V Old st n) (sym (unbegun setup fs Old Now q holds.sound.fit e))
-          (record { low = λ mode. its_cursor; few = λ mode cursor. let no_way : R ≡ W = mode in cc })
+      at : (u : Bool) → st.begun ≡ u → first_decided_answers setup fs New Now q m ≡ first_decided_answers setup fs Old Now q m
+      at true e =
+          let safe : IsSafe V Old st n = safe_at setup fs w holds t key value writer q Now n here e (long e) in
+          decided_begun setup fs New Now q m (ap (λ (p : InvocationState). p.begun) same ∙ e)
+          ∙ subst (λ (p : InvocationState). answers_of New p ≡ answers_of Old st) (sym same) (ap (oldest m) (more_kept V Old fs Now q st n safe))
+          ∙ sym (decided_begun setup fs Old Now q m e)
+      at false e =
+          unbegun_decides setup fs New Now q m (ap (λ (p : InvocationState). p.begun) same ∙ e)
+          ∙ sym (unbegun_decides setup fs Old Now q m e)
 
   -- Where one lacks its fence, nothing is decided behind it, and no attempt has adopted it.
 
@@ -300,11 +309,12 @@ module _ (setup : Setup) (fs : List Function) (w : World) (holds : InvariantHold
 
     one_off_stays : AnswersStay setup fs Old New Now w.attempts q
     one_off_stays =
+        let frames = framed setup fs w holds t key value writer q Now in
         all_but_one
         (record { x = one.x; among = tail_among one.x one.behind Now one.tail; index = one.index; step = one.step; marker = one.marker; last = one.cursor; unadopted = unadopted })
         one.earlier one.was one.becomes
-        (λ k. ap (oldest k) (old_stuck (k - length (old_at Now).answers) ∙ one.old_answers))
-        (λ k. ap (oldest k) (new_stuck (k - length (new_at Now).answers) ∙ one.new_answers))
+        (λ k. decided_begun setup fs Old Now q k one.begun ∙ ap (oldest k) (old_stuck (k - length (old_at Now).answers) ∙ one.old_answers))
+        (λ k. decided_begun setup fs New Now q k (ap (λ (st : InvocationState). st.begun) frames ∙ one.begun) ∙ ap (oldest k) (new_stuck (k - length (new_at Now).answers) ∙ one.new_answers))
 
   pub answers_stay : AnswersStay setup fs Old New Now w.attempts q
   answers_stay = ⊎_elim (λ fenced. all_stay (fenced_stay fenced)) (λ one. one_off_stays one) (either Now here holds.fenced)

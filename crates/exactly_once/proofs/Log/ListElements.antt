@@ -1,7 +1,23 @@
--- What holds of each element of a list.
-use Rattle.std.proofs.Common.{◌≡◌, Bool, true, false, cond, List, [], ◌∷◌, ◌++◌, refl}
+-- What holds of each element of a list, and what lies behind one.
+use Rattle.std.proofs.Common.{◌≡◌, inl, inr, Bool, true, false, cond, List, [], ◌∷◌, ◌++◌, refl, subst}
 use Rattle.std.specs.List.{filter, AllByRecursion}
+use Rattle.exactly_once.specs.FurtherLaws.Words.{IsAmong}
 use Rattle.exactly_once.proofs.Log.HistoryTails.{Tail, here, there}
+
+-- what lies behind an element
+pub record Behind {A : Type 0} (x : A) (ys : List A) : Type 0 where
+  pub rest : List A
+  pub tail : Tail (x ∷ rest) ys
+
+pub behind : {A : Type 0} (x : A) (ys : List A) → IsAmong x ys → Behind x ys
+behind x [] among = absurd among
+behind x (y ∷ ys) (inl e) = record { rest = ys; tail = subst (λ y. Tail (x ∷ ys) (y ∷ ys)) e here }
+behind x (y ∷ ys) (inr among) = let it = behind x ys among in record { rest = it.rest; tail = there it.tail }
+
+-- what is among a part of a list is among the list
+pub among_tail : {A : Type 0} (x : A) (xs ys : List A) → Tail xs ys → IsAmong x xs → IsAmong x ys
+among_tail x xs ys here among = among
+among_tail x xs (y ∷ ys) (there t) among = inr (among_tail x xs ys t among)
 
 module _ {A : Type 0} where
   pub each_append : (P : A → Type 0) (xs ys : List A) → AllByRecursion P xs → AllByRecursion P ys → AllByRecursion P (xs ++ ys)

@@ -29,12 +29,15 @@ AreExclusive R W = Unit {0}
 AreExclusive W R = Unit {0}
 AreExclusive _ _ = ⊥
 
--- Whatever the ordered list, and the mode that it begins with: of two invocations, one of mode R and one of mode W, the one
--- whose Init comes first has its Finish below the other's Init.
+-- Of two invocations, one of mode R and one of mode W, the one whose Init comes first has its Finish below the other's Init.
+abbrev pub NeverBeside : Mode → List (Live Body) → Type 0
+NeverBeside first records =
+    (p q : List ℕ) (i j : ℕ) (m n : Mode)
+    → BeganInMode first records p i m → BeganInMode first records q j n → AreExclusive m n → i < j → IsEnded p (records_below j records)
+
+-- So it is whatever the ordered list, and the mode that it begins with.
 abbrev pub ModesExclude : Type 0
-ModesExclude =
-    (first : Mode) (log : List (LogRecord Body)) (p q : List ℕ) (i j : ℕ) (m n : Mode)
-    → BeganInMode first (live log) p i m → BeganInMode first (live log) q j n → AreExclusive m n → i < j → IsEnded p (records_below j (live log))
+ModesExclude = (first : Mode) (log : List (LogRecord Body)) → NeverBeside first (live log)
 
 -- Whatever the ordered list: each invocation with its live Init below the floor has its Finish in the list.
 abbrev pub FloorsPass : Type 0

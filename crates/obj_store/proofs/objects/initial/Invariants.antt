@@ -1,6 +1,4 @@
-use Rattle.std.proofs.Common.{take, bytes_eq}
-use Rattle.std.specs.List.{IsDistinct}
-use Rattle.std.specs.Map.{keys_of}
+use Rattle.std.proofs.Common.{take}
 use Rattle.obj_store.specs.StandsFor.{KeysDiffer}
 use Rattle.obj_store.specs.Steps.{HoldsInitialObjects}
 use Rattle.obj_store.proofs.objects.initial.Given as goal

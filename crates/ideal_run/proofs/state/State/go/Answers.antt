@@ -4,7 +4,7 @@ use Rattle.boki_model.specs.Maps.{get}
 use Rattle.boki_machine.specs.Ideal.{perform_many}
 use Rattle.ideal_run.specs.Kept.{Maps, maps_of}
 use Rattle.ideal_run.specs.Standing.{MapsStandFor, with_running}
-use Rattle.ideal_run.specs.Turned.{RunsAs}
+use Rattle.ideal_run.specs.Turned.{LeadsTo, RunsAs}
 use Rattle.ideal_run.proofs.Turning.{idle, go_idle, frameless, runs_from, ran}
 use Rattle.ideal_run.proofs.state.State.go.Goals as goal
 
@@ -30,7 +30,8 @@ returns-in-Ok-clause-ok c = λ m stands.
     let known = subst (RunsAs (get p c.args.self.now.invocations.entries)) c.in-Some.is c.in_ok-running.ensures.ok in
     let from = subst (λ (x : Maps). MapsStandFor fs m (with_running p c.in-Some.running x)) (sym c.keep.ensures.maps) (runs_from fs m (maps_of c.args.self.now) p c.in-Some.running known stands) in
     let there : is_some (get p c.keep.new.self.invocations.entries) ≡ true = ap (λ (x : Maps). is_some (get p x.invocations)) c.keep.ensures.maps ∙ ap is_some known in
-    ran fs (perform_many fs c.args.n p m) (maps_of c.steps.new.self) p c.steps.new.running c.restore.new.map.entries (c.in-Ok.ensures.known there) c.restore.ensures (c.in-Ok.ensures.ok m from)
+    subst (LeadsTo fs (perform_many fs c.args.n p m)) (sym c.keep-in-Ok.ensures.maps)
+    (ran fs (perform_many fs c.args.n p m) (maps_of c.steps.new.self) p c.steps.new.running c.restore.new.map.entries (c.in-Ok.ensures.known there) c.restore.ensures (c.in-Ok.ensures.ok m from))
 
 pub returns-in-Err-clause-illegal : goal.returns-in-Err-clause-illegal
 returns-in-Err-clause-illegal c = λ is m stands.

@@ -1,0 +1,3 @@
+pub mod Progresses
+pub mod Attempts
+pub mod Sending

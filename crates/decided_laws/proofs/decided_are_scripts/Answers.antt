@@ -1,9 +1,0 @@
-use Rattle.exactly_once.proofs.OldVersions.VersionKeeps.{versions_keep}
-use Rattle.exactly_once.proofs.Attempts.StepKeeps.{moves_keep}
-use Rattle.exactly_once.proofs.Attempts.LostAnswerKeeps.{misses_keep}
-use Rattle.exactly_once.proofs.Machines.EventKeeps.{events_keep}
-use Rattle.decided_laws.proofs.Scripts.{decided_are_scripts}
-use Rattle.decided_laws.proofs.decided_are_scripts.Goals as goal
-
-pub returns : goal.returns
-returns c = decided_are_scripts (events_keep (moves_keep versions_keep) (misses_keep versions_keep))

@@ -1,9 +1,0 @@
-use Rattle.exactly_once.proofs.OldVersions.VersionKeeps.{versions_keep}
-use Rattle.exactly_once.proofs.Attempts.StepKeeps.{moves_keep}
-use Rattle.exactly_once.proofs.Attempts.LostAnswerKeeps.{misses_keep}
-use Rattle.exactly_once.proofs.Machines.EventKeeps.{events_keep}
-use Rattle.decided_laws.proofs.Ends.{ends_are_last}
-use Rattle.decided_laws.proofs.ends_are_last.Goals as goal
-
-pub returns : goal.returns
-returns c = ends_are_last (events_keep (moves_keep versions_keep) (misses_keep versions_keep))

@@ -1,0 +1,4 @@
+pub mod Kept
+pub mod LastWrites
+pub mod FreeReads
+pub mod Laws

@@ -1,0 +1,2 @@
+pub mod CanStep
+pub mod Kept
