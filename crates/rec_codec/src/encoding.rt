@@ -107,9 +107,8 @@ fn is_too_long(body: &Body) -> bool
 
 /// The one spelling of a body, of at most 4,096 bytes.
 ///
-/// It needs each field in its range, but for a user's bytes, of which there may be any number. `TooLong` comes exactly where
-/// the spelling has more than 4,096 bytes: where a user's bytes are more than 4,092. `Memory` comes only where there is no room
-/// for the spelling.
+/// It needs each field in its range, but for a user's bytes, of which there may be any number. `TooLong` comes exactly where the
+/// spelling has more than 4,096 bytes: where a user's bytes are more than 4,092.
 pub fn encode(alloc: Global, body: &Body) -> Result<List<u8>, EncodeFault>
     requires { IsTrue (in_range body.now) }
     ensures ok { IfOk result (λ bytes. bytes ≡ spelled body.now) }

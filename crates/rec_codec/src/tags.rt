@@ -97,7 +97,7 @@ fn child(path: &Path, ordinal: u64) -> Path
 
 /// The tags of a body, in the order in which a record has them. A user's body tells none, and gives no tag.
 ///
-/// It needs each field in its range. `Memory` comes only where there is no room for the list.
+/// It needs each field in its range.
 pub fn tags_of(alloc: Global, body: &Body) -> Result<List<Tag>, Memory>
     requires { IsTrue (in_range body.now) }
     ensures { IfOk result (λ tags. tags ≡ bodies.tags_of body.now) }
