@@ -1,3 +1,5 @@
+//! Bytes to bodies.
+
 ghost use Rattle.std.specs.Prelude.{◌≡◌};
 ghost use Rattle.rec_codec.specs.Answers.{ReadsAs, Decodes};
 ghost use Rattle.rec_codec.specs.Reading.{format1_at, format2_at, body_at, read};

@@ -1,3 +1,5 @@
+//! Bodies to bytes.
+
 ghost use Rattle.std.specs.Prelude.{◌≡◌, ◌<◌, ◌↔◌, Ok, Err, length, not, IsTrue, IfOk, OnOk};
 ghost use Rattle.boki_model.specs.Bodies.{in_range};
 ghost use Rattle.rec_codec.specs.Spelling.{spelled, has_texts, is_short};

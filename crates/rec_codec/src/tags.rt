@@ -1,3 +1,5 @@
+//! The tags of a record, by what it says.
+
 ghost use Rattle.std.specs.Prelude.{◌≡◌, ◌+◌, ◌*◌, ◌^◌, ◌<◌, ◌≤◌, ◌%◌, ◌++◌, ◌∷◌, [], length, slice_index, IsTrue, IfOk};
 ghost use Rattle.lb_base.specs.Path.{is_ordinal};
 ghost use Rattle.boki_model.specs.Bodies as bodies;
