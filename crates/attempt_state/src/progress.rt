@@ -1,3 +1,5 @@
+//! Where an attempt stands, but for its script.
+
 ghost use Rattle.std.specs.Prelude.{◌≡◌, ◌+◌, ◌<◌, ◌^◌, suc, IfOk};
 ghost use Rattle.boki_machine.specs.Attempt.{new_attempt};
 ghost use Rattle.boki_machine.specs.Step.{is_running};

@@ -1,3 +1,5 @@
+//! An attempt beside the log.
+
 ghost use Rattle.std.specs.Prelude.{◌≡◌, ◌≢◌, ◌+◌, ◌<◌, ◌^◌, length, List, unwrap_or, IfOk, OnOk, OnErr};
 ghost use Rattle.boki_types.specs.declared.program.Function.{Function};
 ghost use Rattle.boki_types.specs.Finding.{find, arity};

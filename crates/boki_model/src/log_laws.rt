@@ -1,3 +1,5 @@
+//! Laws of the log: what an append leaves as it was, and where live records stand.
+
 ghost use Rattle.boki_model.specs.LogLaws.{SeqnumsFall, EarlierReadsStay, PrefixIsSeen, PlacesStay, NewPlaceIsCount, PlacesAreAscending};
 
 /// Seqnums of live records are from 1 to the length of the log, and fall from the newest on.

@@ -1,3 +1,5 @@
+//! Laws of maps, which are lists with their keys in order.
+
 ghost use Rattle.boki_model.specs.MapLaws.{PutsOne, AnswersTellMaps};
 
 /// What is put at a key is found there, other keys keep their values, and keys stay in order.

@@ -1,3 +1,5 @@
+//! Laws of the one order: seqnums, and the locations of records in their shards.
+
 ghost use Rattle.boki_model.specs.OrderLaws.{NewestFirstIsInOrder, LocationsTellSeqnums, AppendsKeepTheOrder, LengthIsTotal, CutsKeepLocations, LocationsAreOfLengths};
 
 /// The newest-first list is the ordered list: entry by entry, and in each the shards by ascending number.

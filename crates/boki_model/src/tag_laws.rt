@@ -1,3 +1,5 @@
+//! Laws of tags: which paths they tell apart.
+
 ghost use Rattle.boki_model.specs.TagLaws.{TagsTellPaths, BegunOnce};
 
 /// Call tags tell paths apart, step tags too, and no call tag is a step tag.

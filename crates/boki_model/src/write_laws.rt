@@ -1,3 +1,5 @@
+//! Laws of writes and their positions.
+
 ghost use Rattle.boki_model.specs.WriteLaws.{PositionsAreUnique, LastWritesStay};
 
 /// No two writes of a key have one position, where versions are numbered and seqnums fall.

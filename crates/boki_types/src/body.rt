@@ -1,3 +1,5 @@
+//! What a record of the log says.
+
 use lb_base::{List, Mode, Outcome, Path, Value, Words};
 
 /// What a record of the log says.

@@ -1,3 +1,5 @@
+//! The events of a plan.
+
 use lb_base::{List, Mode, Path, Seqnum, Tag, Value, Words};
 
 /// An event of a plan. Engines, shards, replicas and attempts are numbered from 1; a local number counts a shard's records

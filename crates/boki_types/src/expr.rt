@@ -1,3 +1,5 @@
+//! Expressions.
+
 use lb_base::Words;
 use sqlite_items::Boxed;
 

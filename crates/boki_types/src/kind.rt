@@ -1,3 +1,5 @@
+//! The kinds of refusal of a text.
+
 ghost use Rattle.std.specs.Prelude.{◌≡◌, Some};
 ghost use Rattle.boki_types.specs.Kinds.{kind_text};
 

@@ -1,3 +1,5 @@
+//! The answers of events, and of steps.
+
 use crate::log::Sent;
 use lb_base::{List, Mode, Outcome, Path, Seqnum, Value, Words};
 

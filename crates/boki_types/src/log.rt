@@ -1,3 +1,5 @@
+//! What the calls of the log answer, and what an invocation calls.
+
 use lb_base::{List, Path, Seqnum, Value, Words};
 
 /// Where an appended record stands: its shard, from 1, and its number there, from 1.

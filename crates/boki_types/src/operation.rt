@@ -1,3 +1,5 @@
+//! What a script asks, and what it is answered.
+
 use lb_base::{List, Outcome, Value, Words};
 
 /// What a script asks of its runtime.

@@ -1,3 +1,5 @@
+//! Plans.
+
 use crate::event::Event;
 use crate::program::Program;
 use lb_base::{List, Mode, Value, Words};

@@ -1,3 +1,5 @@
+//! Functions and their lines.
+
 ghost use Rattle.std.specs.Prelude.{◌≡◌, ◌<◌, ◌^◌, length};
 ghost use Rattle.boki_types.specs.Finding.{find as find_function, arity as arity_of};
 

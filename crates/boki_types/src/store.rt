@@ -1,3 +1,5 @@
+//! What the object store is told, and what it answers.
+
 use lb_base::{List, Path, Seqnum, Value, Words};
 
 /// The name of a stored write: the invocation's path, and the place of the write in its step log.

@@ -1,3 +1,5 @@
+//! Turns, and the report of a run.
+
 use crate::plan::Plan;
 use lb_base::{List, Outcome, Path, Value, Words};
 

@@ -14,7 +14,7 @@ const MOST_RECORDS: u64 = 9_223_372_036_854_775_808;
 impl Book {
     /// Adds a record to the engine's home shard, and answers where it stands. It is live wherever it is ordered.
     ///
-    /// `Memory` comes also where the book has 2^63 records. Then, as after each `Memory`, the book is as before.
+    /// After `Memory` the book is as before.
     pub fn append(&mut self, engine: u32, tags: &[Tag], bytes: &[u8]) -> Result<Sent, Memory>
         requires engine { HasEngine engine self.old }
         requires tags { (1 ≤ length tags.now) × (length tags.now ≤ 8) }
@@ -27,7 +27,7 @@ impl Book {
     }
 
     /// Adds a record to the engine's home shard that is live exactly where so many live records with its first tag are ordered
-    /// before it, and answers where it stands. `Memory` is as for `append`.
+    /// before it, and answers where it stands. After `Memory` the book is as before.
     pub fn cond_append(
         &mut self,
         engine: u32,
@@ -49,8 +49,8 @@ impl Book {
         self.send(engine, rec)
     }
 
-    /// Adds this record to the engine's home shard, and answers where it stands. `Memory` is as for `append`, and the record is
-    /// dropped then.
+    /// Adds this record to the engine's home shard, and answers where it stands. After `Memory` the book is as before, and the record
+    /// is dropped.
     pub fn send(&mut self, engine: u32, rec: Record) -> Result<Sent, Memory>
         requires { HasEngine engine self.old }
         ensures ok { IfOk result (IsSent engine rec self.old self.new) }
@@ -66,7 +66,7 @@ impl Book {
     }
 
     /// Hides the live records of a user's tag up to a seqnum, by a record, and answers where it stands: reads see them no longer
-    /// where they see that record, but for those behind it. `Memory` is as for `append`.
+    /// where they see that record, but for those behind it. After `Memory` the book is as before.
     pub fn trim(&mut self, engine: u32, tag: Tag, upto: Seqnum) -> Result<Sent, Memory>
         requires engine { HasEngine engine self.old }
         requires user { tag.0 < 2 ^ 56 }

@@ -1,3 +1,5 @@
+//! The LogBook: shards, their order, and a view for each engine.
+
 ghost use Rattle.std.specs.Prelude.{◌≡◌, ◌<◌, ◌≤◌, [], length, replicate, IfOk, All};
 ghost use Rattle.lru.specs.LruCache.{lru_cache};
 ghost use Rattle.eng_index.specs.IndexState.{IsIndexOf};

@@ -13,8 +13,7 @@ use std::alloc::Global;
 /// The whole text of a source, of at most `limit` bytes; or the status with which the call ends, since there is none.
 ///
 /// A longer text is refused with line 0 and `Length`, and the line that says so is written. `ReadFault` and `WriteFault` come only
-/// where that device failed in this call, and `Memory` where memory ran out. The status is then right whatever was due on a text
-/// within the limit.
+/// where that device failed in this call. The status is right whatever was due on a text within the limit.
 pub fn read_text<S: Source, K: Sink>(
     alloc: Global,
     limit: usize,

@@ -55,7 +55,7 @@ fn cut_line(text: &[u8]) -> (&[u8], &[u8])
     text.split_at(text.len())
 }
 
-/// Writes a text line by line, each line with its line feed. After an error the sink took a front of the text.
+/// Writes a text line by line, each line with its line feed. After an error the sink took a prefix of the text.
 pub fn write_text<K: Sink>(sink: &mut K, text: &[u8]) -> Result<(), PutFault>
     ensures ok { OnOk result (Appends (K.held sink.old) (K.held sink.new) text.now) }
     ensures err { OnErr result (AppendsPrefix (K.held sink.old) (K.held sink.new) text.now) }

@@ -54,9 +54,9 @@ pub fn check_source<S: Source, K: Sink>(alloc: Global, source: &mut S, sink: &mu
 /// written, and the source is left alone. The source is read whole, up to 1,048,576 bytes. The status is then `Done`, with
 /// exactly the canonical text of the plan that the text spells, where it spells one; else `Refused`, with the line and the kind
 /// for which [`parse_plan`](plan_lang::parse_plan) refuses it, and the line that says so; a text of more bytes is refused with
-/// line 0 and `Length`. `ReadFault` and `WriteFault` come only where that device failed in this call. `Memory` comes where
-/// memory ran out, at any point. What the sink held before stays, and behind it stands what was written: under `WriteFault` and
-/// `Memory` a front of what was due, under `ReadFault` nothing.
+/// line 0 and `Length`. `ReadFault` and `WriteFault` come only where that device failed in this call. What the sink held before
+/// stays, and behind it stands what was written: under `WriteFault` and `Memory` a prefix of what was due, under `ReadFault`
+/// nothing.
 pub fn check_top<S: Source, K: Sink>(
     alloc: Global,
     words: &[String],

@@ -32,8 +32,8 @@ pub fn write_transfers<K: Sink>(alloc: Global, n: u32, sink: &mut K) -> Status
 ///
 /// The words stand without the program's name, and are accepted where they are `make N --plan` or `make --plan N`, with N a
 /// numeral from 1 to 4,000; otherwise the usage line is written. The status is then `Done`, with exactly the canonical text of
-/// the plan of N transfers. `WriteFault` comes only where the sink failed in this call, and `Memory` where memory ran out, at
-/// any point; a front of what was due was written then. What the sink held before stays. The source is never touched.
+/// the plan of N transfers. `WriteFault` comes only where the sink failed in this call; after it, and after `Memory`, a prefix of
+/// what was due was written. What the sink held before stays. The source is never touched.
 pub fn make_top<S: Source, K: Sink>(
     alloc: Global,
     words: &[String],

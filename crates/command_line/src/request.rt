@@ -163,9 +163,9 @@ fn has_dashes(words: &[String]) -> bool
 
 /// What the words ask for, which stand without the program's name, or None where they aren't accepted.
 ///
-/// Accepted are `run`, then `--with I` and `--json` in any order, each at most once, with I `all` or a numeral from 1 to 16, also as
-/// `--with=I`; `make N`, with `--plan` at most once before or behind N, a numeral from 1 to 4,000; and `judge`, `check`, `live`,
-/// `flow`, `log`, `audit` and `mux`, each alone. It fails with `Memory` only where there is no room for splitting the words.
+/// Accepted are `run`, then `--with I` and `--json` in any order, each at most once, with I `all` or a numeral from 1 to 16, also
+/// as `--with=I`; `make N`, with `--plan` at most once before or behind N, a numeral from 1 to 4,000; and `judge`, `check`, `live`,
+/// `flow`, `log`, `audit` and `mux`, each alone.
 pub fn request_of(alloc: Global, words: &[String]) -> Result<Option<Request>, Memory>
     ensures value { IfOk result (λ r. r ≡ request (map string_bytes words.now)) }
     ensures in_range { IfOk result (λ r. IsInRange r) }

@@ -1,3 +1,5 @@
+//! Examples that no plan has: turns that can't be done, and tags by their numbers.
+
 ghost use Rattle.computed_examples.specs.ByHand.{IllegalTurns, KnownTags};
 
 /// Turns that the failure-free execution can't do: a request that is known, an invocation that isn't, more operations than

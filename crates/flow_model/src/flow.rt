@@ -1,3 +1,5 @@
+//! The plain data of live flow: its text, and what its workers came to.
+
 use boki_types::{FlowLine, Program};
 use lb_base::{List, Path, Record, Value, Words};
 

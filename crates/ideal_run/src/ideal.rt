@@ -1,3 +1,5 @@
+//! The failure-free execution, turn by turn.
+
 ghost use Rattle.std.specs.Prelude.{◌≡◌, ◌<◌, ◌^◌, ℕ, List, [], ◌++◌, ◌∷◌, length, None, option_copied, IfOk, IfErr, OnOk, OnErr};
 ghost use Rattle.boki_types.specs.declared.program.Function.{Function};
 ghost use Rattle.boki_types.specs.declared.turn.Turn.{Turn};

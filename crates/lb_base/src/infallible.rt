@@ -1,3 +1,5 @@
+//! A source and a sink in memory that never fail.
+
 ghost use Rattle.std.specs.Prelude.{◌≡◌, [], Some};
 
 use crate::devices::{Given, Sink, Source, Taken};

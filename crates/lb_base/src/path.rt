@@ -1,3 +1,5 @@
+//! Paths: the names of invocations.
+
 ghost use Rattle.std.specs.Prelude.{◌≡◌, ◌==◌, ℕ, ◌≤◌, Some, refl, length, ◌∷◌};
 ghost use Rattle.lb_base.specs.Path.{IsPath, request_path, child_path, path_of};
 ghost use Rattle.std.specs.Cmp;

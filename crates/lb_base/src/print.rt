@@ -109,28 +109,28 @@ impl fmt::Display for Path {
     }
 }
 
-/// The one spelling of a text as a quoted text, which `read_quoted` reads again, or `Memory` where there is no room for it.
+/// The one spelling of a text as a quoted text, which `read_quoted` reads again, or `Memory`.
 pub fn print_quoted(alloc: Global, text: &str) -> Result<Words, Memory>
     ensures { IfOk result (λ w. w ≡ quoted text.now) }
 {
     Ok(Words::from_string(Quoted(text).to_string(alloc)?))
 }
 
-/// The text of a value: an integer, a quoted text, or `none`. `Memory` comes where there is no room for it.
+/// The text of a value: an integer, a quoted text, or `none`.
 pub fn print_value(alloc: Global, value: &Value) -> Result<Words, Memory>
     ensures { IfOk result (λ w. w ≡ value_text value.now) }
 {
     Ok(Words::from_string(value.to_string(alloc)?))
 }
 
-/// The text of a result: `value V`, or `trap KIND`. `Memory` comes where there is no room for it.
+/// The text of a result: `value V`, or `trap KIND`.
 pub fn print_outcome(alloc: Global, outcome: &Outcome) -> Result<Words, Memory>
     ensures { IfOk result (λ w. w ≡ outcome_text outcome.now) }
 {
     Ok(Words::from_string(outcome.to_string(alloc)?))
 }
 
-/// The text of a path: its numbers, with dots between them. `Memory` comes where there is no room for it.
+/// The text of a path: its numbers, with dots between them.
 pub fn print_path(alloc: Global, path: Path) -> Result<Words, Memory>
     ensures { IfOk result (λ w. w ≡ path_text path) }
 {

@@ -58,7 +58,7 @@ pub fn checked_at_end<T: Drop>(tokens: &Tokens, found: Checked<T>) -> Option<Che
 /// What was read of a line, where it is in range and within the limits.
 ///
 /// Else the line is refused: with `Syntax` where nothing was read, with `Range` where something is out of range, and with `Deep`
-/// where it is past the limits. `Memory` never comes.
+/// where it is past the limits.
 pub fn valid_or_fault<T: Drop>(found: Option<Checked<T>>) -> Result<T, LineFault>
     ensures { LineGives result (result_of_checked found) }
 {

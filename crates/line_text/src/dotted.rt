@@ -78,7 +78,7 @@ fn read_dotted_path(alloc: Global, text: &str) -> Result<Option<Checked<Path>>, 
     }
 }
 
-/// The path that stands first; None where none does. `Memory` comes where there is no room for it.
+/// The path that stands first; None where none does.
 pub fn read_path(alloc: Global, tokens: &mut Tokens) -> Result<Option<Checked<Path>>, Memory>
     ensures { IfOk result (λ found. found_before tokens.new found ≡ path_at tokens.old) }
 {
@@ -102,7 +102,7 @@ fn sent_position_of_numbers(numbers: &[Option<u64>], shards: u32) -> Option<Chec
     }
 }
 
-/// The place `S.L` that stands first, of one of so many shards; None where none does. `Memory` comes where there is no room for it.
+/// The place `S.L` that stands first, of one of so many shards; None where none does.
 pub fn read_sent(
     alloc: Global,
     tokens: &mut Tokens,

@@ -21,9 +21,8 @@ pub trait Element<Grammar>: Drop {
     /// What tokens it is read from, and what is left of them.
     ghost reads: { List Token → Option (CheckedSpec Self × List Token) };
 
-    /// Reads one from the first tokens, and leaves those behind it; None where a token doesn't fit.
-    ///
-    /// `Memory` comes where there is no room for it.
+    /// Reads one from the first tokens, and leaves those behind it; None where a token doesn't fit. After `Memory` nothing is said of
+    /// the tokens.
     fn read(alloc: Global, tokens: &mut Tokens) -> Result<Option<Checked<Self>>, Memory>
         ensures { IfOk result (λ found. found_before tokens.new found ≡ reads tokens.old) };
 }

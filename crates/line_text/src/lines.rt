@@ -43,8 +43,7 @@ pub fn as_text(line: &[u8]) -> Option<&str>
 
 /// What a line is, given without its line feed.
 ///
-/// Spaces at its start are skipped. A line that is then empty, or begins with `#`, is skipped. `Memory` comes where there is
-/// no room for the tokens.
+/// Spaces at its start are skipped. A line that is then empty, or begins with `#`, is skipped.
 pub fn read_line(alloc: Global, line: &str) -> Result<LexedLine, Memory>
     ensures { IfOk result (λ found. found ≡ lexed_line line.now) }
 {
@@ -60,8 +59,7 @@ pub fn read_line(alloc: Global, line: &str) -> Result<LexedLine, Memory>
 
 /// The line with this number of a text that has at most so many lines, given without its line feed.
 ///
-/// It is refused with `Lines` where the text has too many lines, and else with `Utf8` where it isn't UTF-8. `Memory` comes where
-/// there is no room for its tokens.
+/// It is refused with `Lines` where the text has too many lines, and else with `Utf8` where it isn't UTF-8.
 pub fn lex_text_line(
     alloc: Global,
     most: u64,

@@ -42,7 +42,7 @@ fn add<T: Drop>(items: Checked<List<T>>, item: Checked<T>) -> Result<Checked<Lis
 
 /// One or more elements, with commas between them, that begin the tokens; None where a token doesn't fit.
 ///
-/// After an answer the tokens behind them are left. `Memory` comes where there is no room for them.
+/// After an answer the tokens behind them are left.
 pub fn read_comma_list<T: Element<G>, G>(
     alloc: Global,
     tokens: &mut Tokens,
@@ -68,7 +68,7 @@ pub fn read_comma_list<T: Element<G>, G>(
 
 /// Elements behind an opening parenthesis, none or more, with the closing one behind them; None where a token doesn't fit.
 ///
-/// After an answer the tokens behind the closing parenthesis are left. `Memory` comes where there is no room for them.
+/// After an answer the tokens behind the closing parenthesis are left.
 pub fn read_paren_list<T: Element<G>, G>(
     alloc: Global,
     tokens: &mut Tokens,

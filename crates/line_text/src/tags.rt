@@ -22,8 +22,7 @@ impl Element<FieldGrammar> for Tag {
 
 /// The one to eight tags that stand first, with commas between; None where a token doesn't fit.
 ///
-/// They are out of range where one is, or where they are more. After an answer the tokens behind them are left. `Memory` comes
-/// where there is no room for them.
+/// They are out of range where one is, or where they are more. After an answer the tokens behind them are left.
 pub fn read_tags(alloc: Global, tokens: &mut Tokens) -> Result<Option<Checked<List<Tag>>>, Memory>
     ensures { IfOk result (λ found. found_before tokens.new found ≡ tags_at tokens.old) }
 {

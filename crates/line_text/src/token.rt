@@ -1,3 +1,5 @@
+//! The tokens of a line.
+
 use boki_types::BinOp;
 use lb_base::Words;
 

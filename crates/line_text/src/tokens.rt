@@ -34,7 +34,7 @@ impl Tokens {
         }
     }
 
-    /// Adds a token at the end. `Memory` comes where there is no room for it.
+    /// Adds a token at the end. After `Memory` the token is dropped, and nothing is said of the others.
     pub fn push(&mut self, token: Token) -> Result<(), Memory>
         ensures { OnOk result (self.new ≡ self.old ++ token ∷ []) }
     {

@@ -133,7 +133,7 @@ module _ (who : ℕ) (seen known copied : List Appended) (indexes : List ℕ) (p
   own_entered Done p copy same new c = let n = new (λ e. cc) in rw n.1 (own_seen p.seen copy n.0 c)
   own_entered Memory p copy same new c = let n = new (λ e. cc) in rw n.1 (own_seen p.seen copy n.0 c)
 
-  -- it appended a record, or empty_prefix changed
+  -- it appended a record, or nothing changed
   pub own_appended : {E : Type 0} (r : Result ℕ E) (P : Type 0) (p0 p : PlaceView) (list list' : List Appended) (rec : Record) (indexes' : List ℕ) (parts' amount' : ℕ)
       → p0.seen ≡ seen → p0.known ≡ known
       → IfOk r (λ n. (list' ≡ list ++ (who, rec) ∷ []) × (n ≡ length list') × IsPrefix p0.known list × (p ≡ record p0 { known = list' }) × (indexes' ≡ indexes ++ length list ∷ []) × (amount' ≡ amount + 1))

@@ -7,7 +7,7 @@ use std::alloc::Global;
 /// A record, with the number of the engine that appended it.
 pub(crate) type Appended = (u32, Record);
 
-/// A copy of a record, or `Memory` where there is no room for it.
+/// A copy of a record, or `Memory`.
 pub(crate) fn copy_of(alloc: Global, item: &Appended) -> Result<Appended, Memory>
     ensures { IfOk result (λ copy. copy ≡ item.now) }
 {

@@ -66,7 +66,7 @@ pub enum CloseFault<J: Naming> {
 
 impl LiveLog<Brand> {
     /// Opens a log of 1 to 16 engines with an empty list, through a door. `Refused` comes only where the door's refusals rose in
-    /// this call. After a fault empty_prefix was made. It may wait.
+    /// this call. After a fault nothing was made. It may wait.
     pub fn open<D: Door, R: Wait>(
         rt: &R,
         alloc: Global,
@@ -91,7 +91,7 @@ impl Opened {
     /// The log under its name, with its engines in the order of their numbers, from 1. It may wait.
     ///
     /// The type says which log it is: each engine and each answer of a call is of the log that has the same type, so the caller
-    /// picks for J what this value shows, once for each log. After `Memory` empty_prefix was made.
+    /// picks for J what this value shows, once for each log. After `Memory` nothing was made.
     #[tactic(auto, using(crate::proofs::ClosedList::new_engines_numbered))]
     pub fn named<J: Naming, R: Wait>(
         self,
@@ -150,7 +150,7 @@ impl<J: Naming> LiveLog<J> {
     /// wait.
     ///
     /// The list begins with what the engine has seen and learned, and from now on the engine knows this record too. After
-    /// `Memory` the list and the engine are as they were. Where publishing wanted memory, no later append of this log succeeds.
+    /// `Memory` the engine is as it was.
     pub fn append<R: Wait>(
         &self,
         rt: &R,
@@ -172,13 +172,13 @@ impl<J: Naming> LiveLog<J> {
         Ok(who.learn(&mut *self.sequencer.lock(rt)))
     }
 
-    /// WriterAndReader a log, with all of its engines: lets each engine see the whole list, and gives the list, each record with the number of
+    /// Ends a log, with all of its engines: lets each engine see the whole list, and gives the list, each record with the number of
     /// the engine that appended it. It may wait.
     ///
     /// The list has each engine's appends once, in their order and at the seqnums that were answered, and no other record of an
     /// engine that was handed in. `Refused` comes only where the door's refusals rose in this call. `Ahead` comes exactly where an
-    /// engine's position is then above the length of the list, and names the one with the least number. After `Memory` and `Refused` the
-    /// log comes back, with the engines as they were or caught up with more of the list.
+    /// engine's position is then above the length of the list, and names the one with the least number. After `Memory` and `Refused`
+    /// the log comes back, with the engines as they were or caught up with more of the list.
     pub fn close<D: Door, R: Wait>(
         self,
         rt: &R,
@@ -219,7 +219,7 @@ impl<J: Naming> LiveLog<J> {
         }
     }
 
-    /// WriterAndReader a log that couldn't be closed, and lets go of its list and its engines. It may wait.
+    /// Ends a log that couldn't be closed, and lets go of its list and its engines. It may wait.
     pub fn give_up<R: Wait>(self, rt: &R, engines: Vec<LiveEngine<J>>) {
         let LiveLog { sequencer } = self;
         drop(engines);

@@ -51,7 +51,7 @@ impl<J: Naming> Sequencer<J> {
         Sequencer { hall, counts }
     }
 
-    /// Publishes a record, and lets the engine learn of it. After `Memory` empty_prefix changed but what may wait for ever.
+    /// Publishes a record, and lets the engine learn of it. After `Memory` nothing has changed but what may wait for ever.
     pub(crate) fn append<R: Wait>(
         &mut self,
         rt: &R,

@@ -1,3 +1,5 @@
+//! The metalog: which records are ordered, and in which order.
+
 ghost use Rattle.std.specs.Prelude.{◌≡◌, ℕ, ◌^◌, ◌≤◌, [], List, length, sum, option_map, IfOk, OnErr};
 ghost use Rattle.lb_base.specs.declared.value.Record.{Record};
 ghost use Rattle.boki_model.specs.Order.{last_vector, order, locate, seq_of};

@@ -1,3 +1,5 @@
+//! The vectors of the metalog, one behind the other in one list of counts.
+
 ghost use Rattle.std.specs.Prelude.{◌≡◌, ℕ, ◌+◌, ◌-◌, ◌*◌, ◌^◌, ◌<◌, ◌≤◌, ◌++◌, ◌∷◌, [], length, slice_index, OnOk, OnErr};
 ghost use Rattle.boki_model.specs.Entries.{location_in_entry, rank_in_entry};
 ghost use Rattle.meta_order.specs.Rows.{row};

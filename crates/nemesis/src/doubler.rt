@@ -1,3 +1,5 @@
+//! The doubler.
+
 ghost use Rattle.nemesis_types.specs.StandardNemeses.{doubler_with, doubler, second_event};
 ghost use Rattle.std.specs.Prelude.{◌≡◌};
 

@@ -1,3 +1,5 @@
+//! The killer.
+
 ghost use Rattle.nemesis_types.specs.StandardNemeses.{killer_with, killer};
 ghost use Rattle.std.specs.Prelude.{◌≡◌};
 

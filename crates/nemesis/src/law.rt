@@ -1,3 +1,5 @@
+//! What a nemesis is: its calls, and the law that they follow.
+
 ghost use Rattle.std.specs.Prelude.{◌≡◌};
 ghost use Rattle.nemesis_types.specs.Automaton.{Automaton, answer_of, after_ask, reseeded, is_spent};
 

@@ -1,3 +1,5 @@
+//! The loser.
+
 ghost use Rattle.nemesis_types.specs.StandardNemeses.{loser_with, loser};
 ghost use Rattle.std.specs.Prelude.{◌≡◌};
 

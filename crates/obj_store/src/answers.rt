@@ -1,3 +1,5 @@
+//! What a read of an object is told, and what it answers.
+
 use boki_types::Name;
 use lb_base::{Seqnum, Value};
 

@@ -1,3 +1,5 @@
+//! Looking an object up by a borrowed key.
+
 ghost use Rattle.std.specs.Prelude.{bytes_eq};
 ghost use Rattle.std.proofs.Common.{ap, rules};
 ghost use Rattle.std.specs.Cmp.Lexicographic.{bytes_decides, nat_list_eq_equiv};

@@ -1,3 +1,5 @@
+//! Laws of what a store keeps, and of which records count for what it stands for.
+
 ghost use Rattle.obj_store.specs.Laws.{OneBelow, NoneSettled, RecordsBelow};
 
 /// Of a key at most one write below the floor is kept, its base: each version that is kept is at or above the floor.

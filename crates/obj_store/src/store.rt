@@ -1,3 +1,5 @@
+//! The object store.
+
 ghost use Rattle.std.specs.Prelude.{◌≡◌, ◌<◌, ◌≤◌, ◌↔◌, ℕ, suc, List, [], ◌∷◌, true, false, not, bytes_eq, nat_lt, option_copied, is_some, IfOk, OnOk, OnErr, IsOk};
 ghost use Rattle.std.specs.List.{IsDistinct};
 ghost use Rattle.std.specs.Map.{keys_of};

@@ -64,7 +64,7 @@ fn push_ignored_parts(out: &mut String, n: u64, place: u32) -> Result<(), Memory
 
 /// Adds the line `N LINE` of the plan's event with the number N, with its line feed.
 ///
-/// `Memory` comes where there is no room for it; the buffer is then empty.
+/// After `Memory` the buffer is empty.
 pub fn push_planned(out: &mut String, n: u64, line: &Line, program: &Program) -> Result<(), Memory>
     ensures ok { OnOk result (Appends out.old (output_text program.now.functions (Planned n line.now)) out.new) }
     ensures err { OnErr result (string_bytes out.new ≡ []) }
@@ -75,7 +75,7 @@ pub fn push_planned(out: &mut String, n: u64, line: &Line, program: &Program) ->
 
 /// Adds the line `N+I EVENT: LINE` of an event that the nemesis with the place I gave behind the event N, with its line feed.
 ///
-/// `Memory` comes where there is no room for it; the buffer is then empty.
+/// After `Memory` the buffer is empty.
 pub fn push_added(
     alloc: Global,
     out: &mut String,
@@ -95,7 +95,7 @@ pub fn push_added(
 /// Adds the line `N+I ignored` of an event that the nemesis with the place I gave and that the plan can't have, with its line
 /// feed.
 ///
-/// `Memory` comes where there is no room for it; the buffer is then empty.
+/// After `Memory` the buffer is empty.
 pub fn push_ignored(out: &mut String, n: u64, place: u32) -> Result<(), Memory>
     ensures ok { OnOk result (Appends out.old (ignored_text n place) out.new) }
     ensures err { OnErr result (string_bytes out.new ≡ []) }
@@ -104,7 +104,7 @@ pub fn push_ignored(out: &mut String, n: u64, place: u32) -> Result<(), Memory>
     clear_on_err(out, pushed)
 }
 
-/// The line that [`push_planned`] adds. `Memory` comes where there is no room for it.
+/// The line that [`push_planned`] adds.
 pub fn print_planned(alloc: Global, n: u64, line: &Line, program: &Program) -> Result<Words, Memory>
     ensures { IfOk result (λ w. w ≡ output_text program.now.functions (Planned n line.now)) }
 {
@@ -113,7 +113,7 @@ pub fn print_planned(alloc: Global, n: u64, line: &Line, program: &Program) -> R
     Ok(Words::from_string(out))
 }
 
-/// The line that [`push_added`] adds. `Memory` comes where there is no room for it.
+/// The line that [`push_added`] adds.
 pub fn print_added(
     alloc: Global,
     n: u64,
@@ -129,7 +129,7 @@ pub fn print_added(
     Ok(Words::from_string(out))
 }
 
-/// The line that [`push_ignored`] adds. `Memory` comes where there is no room for it.
+/// The line that [`push_ignored`] adds.
 pub fn print_ignored(alloc: Global, n: u64, place: u32) -> Result<Words, Memory>
     ensures { IfOk result (λ w. w ≡ ignored_text n place) }
 {

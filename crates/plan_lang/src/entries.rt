@@ -140,7 +140,7 @@ fn entry_of_plain_event(event: Option<Checked<Event>>) -> Option<Checked<Entry>>
 }
 
 /// The event behind the word that a line of events begins with, below a setup and functions, with what is wrong with its call; None
-/// where it is none. It needs fewer than 2^32 functions. `Memory` comes where there is no room for it.
+/// where it is none. It needs fewer than 2^32 functions.
 pub fn read_entry_of_word(
     alloc: Global,
     tokens: &mut Tokens,

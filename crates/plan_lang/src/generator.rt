@@ -215,9 +215,9 @@ fn make_items(alloc: Global, n: u32) -> Result<List<Item>, Memory>
 /// The plan of `n` transfers between ten accounts; it needs an `n` from 1 to 4,000.
 ///
 /// It has 4 shards, 1 replica and 4 engines in mode `R`, the objects `a0` to `a9` of 1000 each, and the function `move` that takes
-/// an amount from one account and adds it to another. For transfer i, from 1 on, there are a request and an attempt of that
-/// number, on engine i modulo 4 plus 1, with a sync between, and then twelve steps with a sync behind each. It moves i modulo 7
-/// from account g, i modulo 10, to account (g + 1 + (i / 10) modulo 9) modulo 10. `Memory` comes where there is no room for it.
+/// an amount from one account and adds it to another. For transfer i, from 1 on, there are a request and an attempt of that number,
+/// on engine i modulo 4 plus 1, with a sync between, and then twelve steps with a sync behind each. It moves i modulo 7 from
+/// account g, i modulo 10, to account (g + 1 + (i / 10) modulo 9) modulo 10.
 pub fn make_plan(alloc: Global, n: u32) -> Result<Plan, Memory>
     requires some { 1 ≤ n }
     requires few { n ≤ 4000 }

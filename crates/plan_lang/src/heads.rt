@@ -355,8 +355,7 @@ impl Head {
 
     /// The head with one more line, of these tokens and with this number; `close` is the word that ends the head.
     ///
-    /// The line is refused with `Syntax`, `Range` or `Deep`, as [`parse_plan`](crate::parse_plan) says of one line. `Memory` comes
-    /// where there is no room for it.
+    /// The line is refused with `Syntax`, `Range` or `Deep`, as [`parse_plan`](crate::parse_plan) says of one line.
     pub fn add_line(
         self,
         alloc: Global,

@@ -42,7 +42,7 @@ fn first_object_fault(
 }
 
 /// What the second pass over a text finds first: an object whose name one above it has, or else what `first_name_fault` finds in
-/// the functions, or else `rest`, the first fault of what stands behind the head. `Memory` comes where there is no room for the names.
+/// the functions, or else `rest`, the first fault of what stands behind the head.
 pub fn first_fault_of(
     alloc: Global,
     head: &Head,

@@ -57,8 +57,7 @@ fn items_string(alloc: Global, functions: &[Function], items: &[Item]) -> Result
     Ok(out)
 }
 
-/// The lines of names with their values, each behind a word, which is to have a space behind it. `Memory` comes where there is no
-/// room for them.
+/// The lines of names with their values, each behind a word, which is to have a space behind it.
 pub fn name_value_lines(
     alloc: Global,
     word: &str,
@@ -109,8 +108,7 @@ fn setup_string(alloc: Global, setup: &Setup) -> Result<String, Memory>
     Ok(format!(in alloc; "setup {shards} {replicas} {engines} {mode}{newer}\n")?)
 }
 
-/// The head of a plan without the line that ends it: the setup, the objects and the functions. `Memory` comes where there is no
-/// room for it.
+/// The head of a plan without the line that ends it: the setup, the objects and the functions.
 pub fn head_string(alloc: Global, plan: &Plan) -> Result<String, Memory>
     ensures { IfOk result (λ s. string_bytes s ≡ head_text plan.now) }
 {
@@ -122,7 +120,6 @@ pub fn head_string(alloc: Global, plan: &Plan) -> Result<String, Memory>
 
 /// The canonical text of a plan, which [`parse_plan`](crate::parse_plan) reads: one space between words, `, ` after a comma but
 /// none after a comma between tags, two spaces for each block that is open, and no other line than those that the plan needs.
-/// `Memory` comes where there is no room for it.
 pub fn print_plan(alloc: Global, plan: &Plan) -> Result<Words, Memory>
     ensures { IfOk result (λ w. w ≡ plan_text plan.now) }
 {

@@ -47,7 +47,7 @@ fn push_with_comma(out: &mut String, first: bool, text: &str) -> Result<(), Memo
     Ok(())
 }
 
-/// Values, with `, ` between them. `Memory` comes where there is no room for them.
+/// Values, with `, ` between them.
 pub fn values_string(alloc: Global, values: &[Value]) -> Result<String, Memory>
     ensures { IfOk result (λ s. string_bytes s ≡ comma_joined value_text values.now) }
 {
@@ -61,8 +61,7 @@ pub fn values_string(alloc: Global, values: &[Value]) -> Result<String, Memory>
     Ok(out)
 }
 
-/// A call `F(VALUE, ..)` of a function, by its number. A function that isn't there is printed without a name. `Memory` comes where
-/// there is no room for it.
+/// A call `F(VALUE, ..)` of a function, by its number. A function that isn't there is printed without a name.
 pub fn call_string(
     alloc: Global,
     functions: &[Function],
@@ -89,7 +88,7 @@ fn behind_tags(alloc: Global, tags: &[Tag]) -> Result<String, Memory>
     Ok(out)
 }
 
-/// Tags, with commas between them and no space. `Memory` comes where there is no room for them.
+/// Tags, with commas between them and no space.
 pub fn tags_string(alloc: Global, tags: &[Tag]) -> Result<String, Memory>
     ensures { IfOk result (λ s. string_bytes s ≡ tags_text tags.now) }
 {
@@ -262,7 +261,7 @@ pub(crate) fn event_string(
 }
 
 /// The line of an event of a plan with this program, without its line feed. A function that the program doesn't have is printed
-/// without a name. `Memory` comes where there is no room for it.
+/// without a name.
 pub fn print_event(alloc: Global, event: &Event, program: &Program) -> Result<Words, Memory>
     ensures { IfOk result (λ w. w ≡ event_text program.now.functions event.now) }
 {

@@ -11,7 +11,6 @@ use lb_base::{List, Memory, Outcome, Path, Quoted, Value, Words};
 use std::alloc::Global;
 
 /// A turn of a run of these functions, without the word `turn` before it. A function that isn't there is printed without a name.
-/// `Memory` comes where there is no room for it.
 pub fn bare_turn_string(
     alloc: Global,
     functions: &[Function],
@@ -50,7 +49,7 @@ pub fn turn_string(alloc: Global, functions: &[Function], turn: &Turn) -> Result
 }
 
 /// The line of a turn of a run of this program, from the word `turn` on and without its line feed. A function that the program
-/// doesn't have is printed without a name. `Memory` comes where there is no room for it.
+/// doesn't have is printed without a name.
 pub fn print_turn(alloc: Global, turn: &Turn, program: &Program) -> Result<Words, Memory>
     ensures { IfOk result (λ w. w ≡ turn_text program.now.functions turn.now) }
 {
@@ -97,7 +96,7 @@ fn queues_string(alloc: Global, queues: &[(Words, List<Value>)]) -> Result<Strin
 }
 
 /// The text of a report of a run of this program: the line `report`, the turns, the results, the objects, the queues, the store
-/// names, and the line `end`. `Memory` comes where there is no room for it.
+/// names, and the line `end`.
 pub fn print_report(alloc: Global, report: &Report, program: &Program) -> Result<Words, Memory>
     ensures { IfOk result (λ w. w ≡ report_text program.now.functions report.now) }
 {

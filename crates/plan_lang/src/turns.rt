@@ -134,8 +134,7 @@ fn read_behind_turn(
     }
 }
 
-/// The turn that the tokens of a line are, with functions above it; None where they are none. `Memory` comes where there is no
-/// room for it.
+/// The turn that the tokens of a line are, with functions above it; None where they are none.
 pub(crate) fn read_turn(
     alloc: Global,
     mut tokens: Tokens,

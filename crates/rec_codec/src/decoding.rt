@@ -1,3 +1,5 @@
+//! Bytes to bodies.
+
 ghost use Rattle.std.specs.Prelude.{◌≡◌};
 ghost use Rattle.rec_codec.specs.Answers.{ReadsAs, Decodes};
 ghost use Rattle.rec_codec.specs.Reading.{format1_at, format2_at, body_at, read};
@@ -63,8 +65,8 @@ fn body(alloc: Global, bytes: &[u8]) -> Result<(Body, &[u8]), Stop>
 
 /// The body that bytes spell, all of them.
 ///
-/// `Bad` comes exactly where they spell none, with the offset of the first element that isn't spelled, or of the first byte
-/// behind a whole body. `Memory` comes only where there is no room for the body, which takes no more than its bytes do.
+/// `Bad` comes exactly where they spell none, with the offset of the first element that isn't spelled, or of the first byte behind
+/// a whole body.
 pub fn decode(alloc: Global, bytes: &[u8]) -> Result<Body, DecodeFault>
     ensures { Decodes result (read bytes.now) }
 {

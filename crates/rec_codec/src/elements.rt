@@ -1,3 +1,5 @@
+//! Readers of numbers and pieces at the front of bytes.
+
 ghost use Rattle.std.specs.Prelude.{◌≡◌, ◌≤◌, length, IfOk};
 ghost use Rattle.std.specs.Int.{w16, w32};
 ghost use Rattle.rec_codec.specs.Answers.{ReadsAs, NeedsNoMemory};

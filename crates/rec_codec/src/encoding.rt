@@ -1,3 +1,5 @@
+//! Bodies to bytes.
+
 ghost use Rattle.std.specs.Prelude.{◌≡◌, ◌<◌, ◌↔◌, Ok, Err, length, not, IsTrue, IfOk, OnOk};
 ghost use Rattle.boki_model.specs.Bodies.{in_range};
 ghost use Rattle.rec_codec.specs.Spelling.{spelled, has_texts, is_short};
@@ -107,9 +109,8 @@ fn is_too_long(body: &Body) -> bool
 
 /// The one spelling of a body, of at most 4,096 bytes.
 ///
-/// It needs each field in its range, but for a user's bytes, of which there may be any number. `TooLong` comes exactly where
-/// the spelling has more than 4,096 bytes: where a user's bytes are more than 4,092. `Memory` comes only where there is no room
-/// for the spelling.
+/// It needs each field in its range, but for a user's bytes, of which there may be any number. `TooLong` comes exactly where the
+/// spelling has more than 4,096 bytes: where a user's bytes are more than 4,092.
 pub fn encode(alloc: Global, body: &Body) -> Result<List<u8>, EncodeFault>
     requires { IsTrue (in_range body.now) }
     ensures ok { IfOk result (λ bytes. bytes ≡ spelled body.now) }

@@ -1,3 +1,5 @@
+//! Why a body isn't encoded, or bytes aren't decoded.
+
 ghost use Rattle.std.specs.Prelude.{◌≡◌};
 ghost use Rattle.rec_codec.specs.declared.fault.Stop.TheVariants as stop;
 ghost use Rattle.rec_codec.specs.declared.fault.EncodeFault.TheVariants as unwritten;

@@ -1,3 +1,5 @@
+//! Readers of the fields of each kind of body.
+
 ghost use Rattle.std.specs.Prelude.{◌≡◌};
 ghost use Rattle.rec_codec.specs.Answers.{ReadsAs};
 ghost use Rattle.rec_codec.specs.Reading.{submit_at, init_at, read_at, named_write_at, inline_write_at, spawned_at, join_at, push_at, pop_at, begin_at, commit_at, finish_at, switch_at, trim_at, trim_tag_at, user_at, group_at};

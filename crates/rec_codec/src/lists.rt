@@ -1,3 +1,5 @@
+//! Readers of paths, and of lists behind their number.
+
 ghost use Rattle.std.specs.Prelude.{◌≡◌, ◌+◌, ◌<◌, ◌≤◌, [], ◌∷◌, length, IfOk};
 ghost use Rattle.rec_codec.specs.Answers.{ReadsAs, NeedsNoMemory, with_front, with_one};
 ghost use Rattle.rec_codec.specs.Reading.{is_key, text_at, value_at, write_at, many_at, list_at, request_at, spawn_at, path_at};

@@ -1,3 +1,5 @@
+//! Which texts can name a function.
+
 ghost use Rattle.std.specs.Prelude.{◌≡◌, true, false, bytes_eq, ◌||◌, MatchOption};
 ghost use Rattle.std.specs.List.{list_all, list_any};
 ghost use Rattle.std.specs.Str.{is_utf8};

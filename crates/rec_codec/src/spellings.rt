@@ -1,3 +1,5 @@
+//! The spelling of each kind of body.
+
 ghost use Rattle.std.specs.Prelude.{◌≡◌, ◌&&◌, ◌<◌, ◌≤◌, ◌∷◌, ◌++◌, Some, None, length, IsTrue, IfOk, OnOk};
 ghost use Rattle.std.specs.List.{list_all};
 ghost use Rattle.boki_model.specs.Bodies.{is_name, is_identifier, is_value, is_outcome};

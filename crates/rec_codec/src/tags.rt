@@ -1,3 +1,5 @@
+//! The tags of a record, by what it says.
+
 ghost use Rattle.std.specs.Prelude.{◌≡◌, ◌+◌, ◌*◌, ◌^◌, ◌<◌, ◌≤◌, ◌%◌, ◌++◌, ◌∷◌, [], length, slice_index, IsTrue, IfOk};
 ghost use Rattle.lb_base.specs.Path.{is_ordinal};
 ghost use Rattle.boki_model.specs.Bodies as bodies;
@@ -97,7 +99,7 @@ fn child(path: &Path, ordinal: u64) -> Path
 
 /// The tags of a body, in the order in which a record has them. A user's body tells none, and gives no tag.
 ///
-/// It needs each field in its range. `Memory` comes only where there is no room for the list.
+/// It needs each field in its range.
 pub fn tags_of(alloc: Global, body: &Body) -> Result<List<Tag>, Memory>
     requires { IsTrue (in_range body.now) }
     ensures { IfOk result (λ tags. tags ≡ bodies.tags_of body.now) }

@@ -1,3 +1,5 @@
+//! The record that trims a tag, read without memory.
+
 ghost use Rattle.std.specs.Prelude.{◌≡◌, length};
 ghost use Rattle.std.specs.Int.{w64, from_be_bytes};
 ghost use Rattle.rec_codec.specs.Reading.{read, trim_in};

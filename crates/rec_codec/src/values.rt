@@ -1,3 +1,5 @@
+//! Readers of texts, names, values and outcomes.
+
 ghost use Rattle.std.specs.Prelude.{◌≡◌, ◌^◌, length};
 ghost use Rattle.rec_codec.specs.Answers.{ReadsAs};
 ghost use Rattle.rec_codec.specs.Reading.{is_text, is_key, is_function, text_at, value_at, trap_of, trap_at, outcome_at, target_of, target_at, write_at};

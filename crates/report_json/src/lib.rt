@@ -34,11 +34,10 @@ fn report_json(alloc: Global, report: &Report, program: &Program) -> Result<Json
 
 /// The JSON form of a report of a run of this program: one compact line with its line feed.
 ///
-/// Its keys are `objects`, `queues`, `results`, `store` and `turns`. Objects and store names map to their
-/// values, queues to arrays, front first, and paths to `{"value":V}` or `{"trap":"KIND"}`. The turns are
-/// their lines without the word `turn`, and `none` is null. The keys of each object stand in the order of
-/// their bytes. A function that the program doesn't have is printed without a name. `Memory` comes where
-/// there is no room for it.
+/// Its keys are `objects`, `queues`, `results`, `store` and `turns`. Objects and store names map to their values, queues to arrays,
+/// front first, and paths to `{"value":V}` or `{"trap":"KIND"}`. The turns are their lines without the word `turn`, and `none` is
+/// null. The keys of each object stand in the order of their bytes. A function that the program doesn't have is printed without a
+/// name.
 pub fn print_json(alloc: Global, report: &Report, program: &Program) -> Result<Words, Memory>
     ensures { IfOk result (λ w. w ≡ json_text program.now.functions report.now) }
 {

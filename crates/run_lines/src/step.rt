@@ -122,7 +122,7 @@ pub(crate) fn push_step(
 /// Adds what one step of an attempt did to a buffer, without a line feed. A function that the program doesn't have is printed
 /// without a name.
 ///
-/// `Memory` comes where there is no room for it; the buffer is then empty.
+/// After `Memory` the buffer is empty.
 pub fn push_step_line(out: &mut String, line: &StepLine, program: &Program) -> Result<(), Memory>
     ensures ok { OnOk result (Appends out.old (step_text program.now.functions line.now) out.new) }
     ensures err { OnErr result (string_bytes out.new ≡ []) }

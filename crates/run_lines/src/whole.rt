@@ -111,7 +111,7 @@ fn push_answer(out: &mut String, functions: &[Function], line: &Line) -> Result<
 /// Adds what an event answered to a buffer, without a line feed. A function that the program doesn't have is printed without a
 /// name.
 ///
-/// `Memory` comes where there is no room for it; the buffer is then empty.
+/// After `Memory` the buffer is empty.
 pub fn push_line(out: &mut String, line: &Line, program: &Program) -> Result<(), Memory>
     ensures ok { OnOk result (Appends out.old (answer_text program.now.functions line.now) out.new) }
     ensures err { OnErr result (string_bytes out.new ≡ []) }
@@ -124,7 +124,6 @@ pub fn push_line(out: &mut String, line: &Line, program: &Program) -> Result<(),
 }
 
 /// The text of what an event answered, without a line feed. A function that the program doesn't have is printed without a name.
-/// `Memory` comes where there is no room for it.
 pub fn print_line(alloc: Global, line: &Line, program: &Program) -> Result<Words, Memory>
     ensures { IfOk result (λ w. w ≡ answer_text program.now.functions line.now) }
 {

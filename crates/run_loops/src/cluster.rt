@@ -1,3 +1,5 @@
+//! What a run is done on: anything that stands for a machine.
+
 ghost use Rattle.std.specs.Prelude.{◌≡◌, List, ℕ, IfOk, IsTrue};
 ghost use Rattle.boki_types.specs.declared.plan.Setup.{Setup};
 ghost use Rattle.boki_types.specs.declared.program.Function.{Function};

@@ -1,3 +1,5 @@
+//! What a nemesis is told of an event, by its answer.
+
 ghost use Rattle.std.specs.Prelude.{◌≡◌};
 ghost use Rattle.run_with.specs.Runs.{is_send as is_send_line, step_sent, attempt_started, attempt_stepped, seen_of};
 

@@ -347,8 +347,6 @@ fn advance(
 }
 
 /// The longest expression that begins the tokens, which are then those behind it; None where a token doesn't fit before it ends.
-///
-/// `Memory` comes where there is no room for the expression.
 pub(crate) fn read_expr(alloc: Global, tokens: &mut Tokens) -> Result<Option<Checked<Expr>>, Memory>
     ensures { IfOk result (λ found. found_before tokens.new found ≡ expr_at tokens.old) }
 {

@@ -252,10 +252,10 @@ fn first_function_fault(
 
 /// The first line in functions that uses a name or a number of arguments that is wrong, and which of the two it is.
 ///
-/// `line_numbers` has, for each function, the number of its head and then those of its lines. `Name` comes where a function has the name
-/// of one before it, where a parameter stands twice, where a variable is neither a parameter nor set by a line above, and where
-/// no function has the name that a line calls. `Arity` comes where the first function of that name takes another number of
-/// arguments. Within a line a name comes first. `Memory` comes where there is no room for the names.
+/// `line_numbers` has, for each function, the number of its head and then those of its lines. `Name` comes where a function has the
+/// name of one before it, where a parameter stands twice, where a variable is neither a parameter nor set by a line above, and
+/// where no function has the name that a line calls. `Arity` comes where the first function of that name takes another number of
+/// arguments. Within a line a name comes first.
 pub fn first_name_fault(
     alloc: Global,
     functions: &[Function],

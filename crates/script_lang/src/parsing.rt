@@ -82,8 +82,8 @@ fn read_functions(alloc: Global, text: &str, first: u64) -> Result<Program, Scri
 /// place; `Range`, a number, text, name or count is out of range; `Deep`, the limits of nesting or of operands are passed. Where no
 /// line has such a fault, `End` comes where the text stops in a function, with the number behind the last line. Else names and
 /// numbers of arguments are looked at, from the first line again: `Name`, a function or a parameter is given twice, or a function
-/// isn't known, or a variable is neither a parameter nor set by a line above; `Arity`, a call has another number of arguments
-/// than the function. `Memory` comes where there is no room for the program.
+/// isn't known, or a variable is neither a parameter nor set by a line above; `Arity`, a call has another number of arguments than
+/// the function.
 pub fn parse_functions(alloc: Global, text: &str, first: u64) -> Result<Program, ScriptFault>
     requires from { 1 ≤ first }
     requires to { first ≤ 300000 }

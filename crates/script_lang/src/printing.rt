@@ -311,9 +311,9 @@ fn lines_string(alloc: Global, lines: &[Stmt]) -> Result<String, Memory>
 
 /// The canonical text of a function: its head, its lines and its `end`, each with its line feed.
 ///
-/// There is one space between words and on both sides of an operator, `, ` after a comma, and two spaces at the start of a line
-/// for each block that is open there; `else` and `end` stand as far in as the line that opened their block. Parentheses stand
-/// exactly where the tree needs them. `Memory` comes where there is no room for the text.
+/// There is one space between words and on both sides of an operator, `, ` after a comma, and two spaces at the start of a line for
+/// each block that is open there; `else` and `end` stand as far in as the line that opened their block. Parentheses stand exactly
+/// where the tree needs them.
 pub fn print_function(alloc: Global, function: &Function) -> Result<Words, Memory>
     ensures { IfOk result (λ text. text ≡ function_text function.now) }
 {

@@ -149,8 +149,6 @@ fn read_name_and_list<T: Element<G>, G>(
 
 /// The call `F(VALUE, ..)` that begins the tokens, of any number of values, and leaves those behind it; None where a token
 /// doesn't fit.
-///
-/// `Memory` comes where there is no room for it.
 pub fn read_call(
     alloc: Global,
     tokens: &mut Tokens,

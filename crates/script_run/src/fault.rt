@@ -1,3 +1,5 @@
+//! Why a line of a script isn't done.
+
 ghost use Rattle.std.specs.Prelude.{◌≡◌};
 ghost use Rattle.script_run.specs.declared.fault.EvalFault.TheVariants as halt;
 

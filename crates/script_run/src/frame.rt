@@ -1,3 +1,5 @@
+//! A frame: a script that runs, from one operation to the next.
+
 ghost use Rattle.std.specs.Prelude.{◌≡◌, ◌↔◌, ◌<◌, ◌^◌, ℕ, List, [], ◌∷◌, length, Some, slice_get, IsTrue, IfOk, OnOk, OnErr};
 ghost use Rattle.std.specs.Option.{option_copied};
 ghost use Rattle.lb_base.specs.declared.value.Value.{Value};

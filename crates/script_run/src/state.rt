@@ -1,3 +1,5 @@
+//! What a script has made so far: its variables, its open blocks and what counts towards its traps.
+
 ghost use Rattle.std.specs.Prelude.{◌<◌, ◌≡◌};
 
 use lb_base::{List, Value, Words};

@@ -1,3 +1,5 @@
+//! One shard and its replicas.
+
 ghost use Rattle.std.specs.Prelude.{◌≡◌, ℕ, suc, ◌+◌, ◌-◌, ◌<◌, min, [], ◌∷◌, ◌++◌, length, replicate, slice_index, slice_set, IfOk, OnErr};
 ghost use Rattle.std.specs.Option.{option_copied};
 ghost use Rattle.boki_model.specs.Order.{least_count};

@@ -1,3 +1,5 @@
+//! All shards of a log, by their numbers.
+
 ghost use Rattle.std.specs.Prelude.{◌≡◌, ℕ, suc, ◌<◌, length, IfOk, OnErr};
 ghost use Rattle.std.specs.Option.{option_copied};
 ghost use Rattle.boki_model.specs.Order.{progress};

@@ -231,9 +231,8 @@ pub fn run_source<S: Source, K: Sink>(alloc: Global, source: &mut S, sink: &mut 
 /// refused with the line and the kind for which [`parse_plan`](plan_lang::parse_plan) refuses it, one of more bytes with line 0
 /// and `Length`, and a plan that isn't of the small form with line 0 and `NotBuilt`. `Refused` comes exactly then, and its line
 /// was written. `ReadFault` and `WriteFault` come only where that device failed in this call, and `Done` only once the source
-/// was read to its end. `Memory` comes where memory ran out, at any point. What the sink held before stays, and what was
-/// written stands behind it: under `Done` all that was due, under `WriteFault` and `Memory` a front of it, under `ReadFault`
-/// nothing.
+/// was read to its end. What the sink held before stays, and what was written stands behind it: under `Refused` and for other
+/// words exactly that line, under `ReadFault` nothing. Of the text of a run nothing more is said yet.
 pub fn run_top<S: Source, K: Sink>(
     alloc: Global,
     words: &[String],
