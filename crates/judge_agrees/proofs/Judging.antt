@@ -38,6 +38,7 @@ use Rattle.plan_lang.proofs.CleanPlans.{is_clean_item}
 use Rattle.plan_lang.proofs.CleanReads.{are_clean_values, is_clean_value}
 use Rattle.plan_lang.proofs.CleanTurns.{is_clean_turn}
 use Rattle.plan_lang.proofs.PlansInLimits.{object_test, parsed_plan_is_plan}
+use Rattle.plan_lang.proofs.PlansParseBack.{origin}
 use Rattle.plan_lang.proofs.TurnScans.{turn_test}
 use Rattle.plan_lang.proofs.TurnTextsParseBack.{turns_parse_back, turns_printable}
 use Rattle.judge_agrees.specs.Counts.{turns_of_log, HaveAtMost}
@@ -46,7 +47,7 @@ use Rattle.judge_agrees.specs.Laws.{text_with, turn_text_of, PlanWithTurnsIsRead
 use Rattle.judge_agrees.specs.Requests.{IsUtf8Value, AreUtf8Values, SubmitsUtf8}
 use Rattle.judge_agrees.specs.Turns.{TurnIsUtf8, CanStand}
 use Rattle.judge_agrees.proofs.Counts.{counts_are_few}
-use Rattle.judge_agrees.proofs.Heads.{origin, front_read}
+use Rattle.judge_agrees.proofs.Heads.{front_read}
 use Rattle.judge_agrees.proofs.QuotedUtf8.{quoted_utf8}
 use Rattle.judge_agrees.proofs.UnquotedUtf8.{unquoted_utf8}
 use Rattle.judge_agrees.proofs.RunTurns.{turns_can_stand}

@@ -305,7 +305,7 @@ limited_origin text true p e = absurd (cc)
 limited_origin text false p e =
     finished_origin (scan_lines plan_line 65536 1 text empty_plan_draft) p (scan_in_limits text) (kept CleanPlan plan_line plan_keeps_clean 65536 1 text empty_plan_draft no_plan_clean) e
 
-origin : (text : List ℕ) (p : Plan) → plan_of text ≡ Ok p → Origin p
+pub origin : (text : List ℕ) (p : Plan) → plan_of text ≡ Ok p → Origin p
 origin text p e = limited_origin text (nat_lt 1048576 (length text)) p e
 
 -- The second pass finds nothing, wherever the lines stand.
