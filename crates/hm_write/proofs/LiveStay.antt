@@ -5,7 +5,7 @@ use Rattle.boki_types.specs.declared.body.Body.{Body}
 use Rattle.boki_types.specs.declared.log.Sent.{Sent}
 use Rattle.boki_model.specs.Live.{LogRecord, live}
 use Rattle.boki_model.specs.Order.{order, last_vector}
-use Rattle.boki_model.specs.OrderLaws.{add_to, ShardsHave}
+use Rattle.boki_model.specs.OrderLaws.{ShardsHave}
 use Rattle.boki_model.proofs.Orders.{stays}
 use Rattle.log_folds.specs.Decoded.{decoded_record}
 use Rattle.log_folds.proofs.MappedOrders.{ordered_alike}

@@ -1,16 +1,15 @@
 -- What is put into the store leaves it kept.
-use Rattle.std.proofs.Common.{◌≡◌, ℕ, ltb, Bool, true, false, cond, List, [], ◌∷◌, Option, Some, None, is_some, Result, Ok, Err, IfOk, refl, sym, ap, ◌∙◌, subst}
+use Rattle.std.proofs.Common.{◌≡◌, ℕ, ltb, Bool, true, false, cond, List, ◌∷◌, Option, Some, None, is_some, Result, Ok, Err, IfOk, refl}
 use Rattle.lb_base.specs.declared.value.Value.{Value}
 use Rattle.boki_types.specs.declared.body.Body.{Body}
 use Rattle.boki_types.specs.declared.store.Name.{Name}
 use Rattle.boki_types.specs.declared.store.Named.{Named}
 use Rattle.boki_types.specs.declared.store.Put.{Put}
 use Rattle.boki_model.specs.Live.{Live}
-use Rattle.boki_model.specs.Writes.{Store, NamedValue, Version, KeyFence, same_name, value_under_name, here_or_named, add_if_new, put_named, after_put_named, puts_version, put_at, after_put, after_read_fenced, raise_fences}
+use Rattle.boki_model.specs.Writes.{Store, NamedValue, same_name, value_under_name, here_or_named, add_if_new, put_named, after_put_named, puts_version, put_at, after_put, after_read_fenced, raise_fences}
 use Rattle.machine_laws.specs.Kept.{WritesHaveValues}
 use Rattle.obj_store.specs.Kept.{StoreState}
 use Rattle.obj_store.specs.StandsFor.{StandsFor}
-use Rattle.hm_read.specs.Kept.{IsKept}
 use Rattle.hm_write.specs.Stores.{SettledIsOld, StoresNamed, PutsFree}
 
 -- Values under names: one more takes none away.

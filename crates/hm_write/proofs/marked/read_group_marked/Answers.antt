@@ -1,5 +1,5 @@
 use Rattle.std.proofs.Common.{◌≤◌, arith}
-use Rattle.hm_write.proofs.Marking.{group_gone, group_values}
+use Rattle.hm_write.proofs.Marking.{group_values}
 use Rattle.hm_write.proofs.marked.read_group_marked.Goals as goal
 
 pub returns-clause-ok : goal.returns-clause-ok

@@ -6,7 +6,7 @@ use Rattle.step_log.specs.Sound.{live_bodies}
 use Rattle.store_laws.proofs.Told.{views_tell_last}
 use Rattle.hm_read.specs.LastWrites.{write_parts}
 use Rattle.hm_read.proofs.Wholes.{fenced_whole}
-use Rattle.hm_write.proofs.Marking.{read_gone, read_value}
+use Rattle.hm_write.proofs.Marking.{read_value}
 use Rattle.hm_write.proofs.marked.read_marked.Goals as goal
 
 pub returns-clause-ok : goal.returns-clause-ok
