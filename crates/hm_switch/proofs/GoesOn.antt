@@ -109,7 +109,7 @@ module _ (seq : ℕ) (x : Live Body) (records : List (Live Body)) (phases : List
       falls = fall_more;
     }
 
-    still : ((q : List ℕ) → ended_by q mark ≡ false) → (open_by mark x.seq records now ≡ now) → AreLives (x ∷ records) phases opened
+    pub still : ((q : List ℕ) → ended_by q mark ≡ false) → (open_by mark x.seq records now ≡ now) → AreLives (x ∷ records) phases opened
     still none same = made phases opened
         (λ q. are.phase q ∙ sym (ap₂ (λ e os. phase_of e (open_since q os)) (ap (λ t. is_some (result_of q records) || t) (none q) ∙ or_false (is_some (result_of q records))) same))
         (are.opened_are ∙ ap (λ os. by_seqnum (first_inits os)) (sym same))
@@ -171,7 +171,7 @@ module _ (seq : ℕ) (x : Live Body) (records : List (Live Body)) (phases : List
             ap (λ t. cond t (Some (Open seq)) (phase_in q phases)) (ap (bytes_eq p) same ∙ same_itself p)
             ∙ ap (λ n. Some (Open n)) (sym comes.seqnum)
             ∙ sym (ap₂ (λ t s. phase_of (t || false) s) (ap (λ r. is_some (result_of r records)) same ∙ is.ended_is)
-                (ap₂ (λ s t. option_or s (cond t (Some x.seq) None)) (ap (λ r. open_since r now) same ∙ is.since_is) (ap (λ r. bytes_eq r p) same ∙ same_itself p)))
+            (ap₂ (λ s t. option_or s (cond t (Some x.seq) None)) (ap (λ r. open_since r now) same ∙ is.since_is) (ap (λ r. bytes_eq r p) same ∙ same_itself p)))
         at q (inr d) =
             ap (λ t. cond t (Some (Open seq)) (phase_in q phases)) (other_way q p d)
             ∙ are.phase q

@@ -4,3 +4,7 @@ pub mod Says
 pub mod GoesOn
 pub mod Found
 pub mod ModesGo
+pub mod Taken
+pub mod NextOnes
+pub mod Going
+pub mod Marked

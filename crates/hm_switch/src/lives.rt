@@ -1,9 +1,10 @@
 //! Which invocations are open, and since when.
 ghost use Rattle.std.specs.Prelude.{◌≡◌, [], ℕ, List, Some, None, cond, nat_lt, OnOk};
 ghost use Rattle.boki_types.specs.declared.body.Body.{Body};
+ghost use Rattle.boki_types.specs.declared.body.Body.TheVariants as body;
 ghost use Rattle.boki_model.specs.Live.{Live};
 ghost use Rattle.boki_model.specs.Modes.{least_open, all_ended, lesser_path};
-ghost use Rattle.boki_model.specs.Floor.{first_open};
+ghost use Rattle.boki_model.specs.Floor.{first_open, counted_trim};
 ghost use Rattle.hm_switch.specs.declared.marks.Mark.TheVariants as said;
 ghost use Rattle.hm_switch.specs.Lives.{AreLives, GoOn, since_in};
 
@@ -86,6 +87,20 @@ impl Lives {
             Some(seq) => seq >= below,
             None => true,
         }
+    }
+
+    /// What a Trim of a bound at a seqnum counts, behind the records: its bound, or 0.
+    pub(crate) fn counted(&self, seq: u64, bound: u64) -> u64
+        ensures { (records : List (Live Body)) → AreLives records self.now.phases.entries self.now.opened.entries
+            → result ≡ counted_trim (body.Trim bound) seq records }
+    {
+        if bound > seq {
+            return 0;
+        }
+        if self.all_ended(bound) {
+            return bound;
+        }
+        0
     }
 
     /// The least path of those open invocations that began below a seqnum.

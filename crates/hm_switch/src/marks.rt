@@ -2,8 +2,8 @@
 ghost use Rattle.std.specs.Prelude.{◌≡◌};
 ghost use Rattle.hm_switch.specs.Marks.{mark_of};
 
-use lb_base::{Mode, Path};
 use boki_types::Body;
+use lb_base::{Mode, Path};
 
 /// What a record says to the modes, to the floor, and to which invocations are open.
 #[derive(Clone, Copy)]

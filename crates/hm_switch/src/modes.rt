@@ -54,14 +54,8 @@ impl Modes {
         if same(target, self.current) {
             return Ok(());
         }
-        self.changes.push(Change {
-            seq,
-            mode: Mode::T,
-        })?;
-        self.pending = Some(Pending {
-            target,
-            begun: seq,
-        });
+        self.changes.push(Change { seq, mode: Mode::T })?;
+        self.pending = Some(Pending { target, begun: seq });
         Ok(())
     }
 
