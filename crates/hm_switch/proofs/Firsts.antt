@@ -1,9 +1,8 @@
 -- The first Inits of open invocations tell what all of them tell.
 use Rattle.std.proofs.Common.{◌≡◌, ◌⊎◌, inl, inr, ℕ, ◌<◌, ◌≤◌, Bool, true, false, cond, ltb, ◌&&◌, ◌||◌, not, List, [], ◌∷◌, Option, Some, None, refl, sym, ap, subst, ◌∙◌, arith}
 use Rattle.std.specs.Prelude.{bytes_eq, is_some}
-use Rattle.std.specs.List.{filter}
 use Rattle.std.specs.Option.{option_or}
-use Rattle.std.proofs.lemmas.Bool.{lt-ltb, le-ltb, ltb-true, ltb-false}
+use Rattle.std.proofs.lemmas.Bool.{lt-ltb, ltb-true, ltb-false}
 use Rattle.std.specs.Cmp.Lexicographic.{nat_list_cmp_total}
 use Rattle.std.proofs.lemmas.Cmp.{upto, tied_itself}
 use Rattle.std.proofs.lemmas.Map.Text.{is_eq-slice_cmp}
@@ -16,9 +15,9 @@ use Rattle.boki_model.specs.LogLaws.{FallBelow}
 use Rattle.boki_model.specs.Maps.{key_order, before}
 use Rattle.boki_model.specs.Writes.{prepend_some}
 use Rattle.boki_model.specs.Modes.{init_path, result_of, lesser_path}
-use Rattle.exactly_once.proofs.Log.MapChanges.{same_itself, keys_cases, other_way}
+use Rattle.exactly_once.proofs.Log.MapChanges.{keys_cases}
 use Rattle.log_folds.specs.Opens.{OpenInvocation, if_open, open_in, none_open_below, least_open_below, first_open_seqnum}
-use Rattle.hm_switch.specs.Lives.{has_path, open_since, first_inits}
+use Rattle.hm_switch.specs.Lives.{has_path, first_inits}
 
 -- their seqnums fall from the newest on
 abbrev pub FallInits : ℕ → List OpenInvocation → Type 0

@@ -6,7 +6,7 @@ use Rattle.boki_types.specs.declared.body.Body.{Body}
 use Rattle.boki_model.specs.Live.{Live}
 use Rattle.boki_model.specs.Modes.{lesser_path, least_open, all_ended}
 use Rattle.boki_model.specs.Floor.{first_open}
-use Rattle.log_folds.specs.Opens.{OpenInvocation, open_invocations, none_open_below, least_open_below, first_open_seqnum}
+use Rattle.log_folds.specs.Opens.{OpenInvocation, open_invocations, least_open_below, first_open_seqnum}
 use Rattle.log_folds.proofs.Opens.{are_kept}
 use Rattle.hm_switch.specs.declared.phase.Phase.{Phase}
 use Rattle.hm_switch.specs.declared.phase.Phase.TheVariants.{Open, Ended}

@@ -16,10 +16,10 @@ use Rattle.hm_switch.specs.declared.marks.Mark.{Mark}
 use Rattle.hm_switch.specs.declared.marks.Mark.TheVariants as m
 use Rattle.hm_switch.specs.declared.phase.Phase.{Phase}
 use Rattle.hm_switch.specs.declared.phase.Phase.TheVariants.{Open, Ended}
-use Rattle.hm_switch.specs.Marks.{mark_of, Comes}
-use Rattle.hm_switch.specs.Lives.{phase_in, open_since, phase_of, phase_at, has_path, first_inits, by_seqnum, AreLives, GoOn}
-use Rattle.hm_switch.proofs.Firsts.{FallInits, inits_fall}
-use Rattle.hm_switch.proofs.Opened.{others, has_since, no_since, others_none, since_others, first_others, inserted, removed}
+use Rattle.hm_switch.specs.Marks.{Comes}
+use Rattle.hm_switch.specs.Lives.{phase_in, open_since, phase_of, phase_at, has_path, first_inits, by_seqnum, AreLives}
+use Rattle.hm_switch.proofs.Firsts.{inits_fall}
+use Rattle.hm_switch.proofs.Opened.{others, has_since, others_none, since_others, first_others, inserted, removed}
 use Rattle.hm_switch.proofs.Says.{open_by, ended_by, opens_by, ends_by}
 
 or_none : {A : Type 0} (s : Option A) → option_or s None ≡ s

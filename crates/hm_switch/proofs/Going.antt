@@ -8,7 +8,7 @@ use Rattle.lb_base.specs.declared.value.Mode.{Mode}
 use Rattle.lb_base.specs.declared.value.Tag.{Tag}
 use Rattle.boki_types.specs.declared.body.Body.{Body}
 use Rattle.boki_types.specs.declared.body.Body.TheVariants as b
-use Rattle.boki_model.specs.Live.{LogRecord, Live, has_tag, live, upto, is_live}
+use Rattle.boki_model.specs.Live.{LogRecord, Live, has_tag, upto, is_live}
 use Rattle.boki_model.specs.LogLaws.{FallBelow}
 use Rattle.boki_model.specs.Order.{order, at_seq}
 use Rattle.boki_model.specs.Bodies.{life_tag, tag_of, path_number, tags_of}
@@ -26,11 +26,10 @@ use Rattle.log_folds.proofs.Said.{is_said}
 use Rattle.book_api.specs.Books.{BookState, ordered, position}
 use Rattle.step_log.specs.Sound.{body_of, bodies, live_bodies, view, Sound}
 use Rattle.step_log.proofs.Calls.{own_view}
-use Rattle.hm_switch.specs.declared.marks.Mark.{Mark}
 use Rattle.hm_switch.specs.declared.marks.Mark.TheVariants as m
 use Rattle.hm_switch.specs.Marks.{mark_of, is_marked, mark_in, Comes}
 use Rattle.hm_switch.specs.Next.{AreUnmarked, IsNext}
-use Rattle.hm_switch.specs.SwitchStates.{SwitchState, IsFoldOf, IsNew, Follows, IsCurrent, Takes, GoesOn, ComesTo}
+use Rattle.hm_switch.specs.SwitchStates.{SwitchState, IsFoldOf, IsNew, Follows, IsCurrent, Takes, GoesOn}
 use Rattle.hm_switch.proofs.Taken.{fold_stays}
 
 -- a record without these tags says nothing

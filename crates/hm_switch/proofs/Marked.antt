@@ -1,7 +1,7 @@
 -- The next marked record of a view, and what a view's calls answer.
-use Rattle.std.proofs.Common.{◌≡◌, ℕ, suc, ◌+◌, ◌≤◌, ◌||◌, List, ◌++◌, length, Option, Some, None, Result, Ok, Err, OnOk, option_map, refl, sym, ap, ap₂, subst, ◌∙◌, arith}
+use Rattle.std.proofs.Common.{◌≡◌, ℕ, suc, ◌+◌, ◌||◌, List, ◌++◌, length, Option, Some, Result, Ok, Err, OnOk, sym, ap, subst, ◌∙◌, arith}
 use Rattle.boki_types.specs.declared.body.Body.{Body}
-use Rattle.boki_model.specs.Live.{LogRecord, Live, has_tag}
+use Rattle.boki_model.specs.Live.{LogRecord, has_tag}
 use Rattle.boki_model.specs.Bodies.{life_tag}
 use Rattle.boki_model.specs.Reads.{next}
 use Rattle.boki_model.specs.Order.{order}
@@ -14,7 +14,6 @@ use Rattle.switch_laws.proofs.Trims.{trimmed_counts}
 use Rattle.book_api.specs.Books.{BookState, ordered, position}
 use Rattle.step_log.specs.Sound.{body_of, bodies, view}
 use Rattle.hm_switch.specs.declared.change.Pending.{Pending}
-use Rattle.hm_switch.specs.Marks.{is_marked}
 use Rattle.hm_switch.specs.Modes.{switch_of, pending_in}
 use Rattle.hm_switch.specs.Next.{earlier, IsNextMarked}
 use Rattle.hm_switch.specs.SwitchStates.{SwitchState, IsCurrent}

@@ -1,21 +1,19 @@
 -- What is kept of modes goes on by a record.
-use Rattle.std.proofs.Common.{◌≡◌, ◌⊎◌, inl, inr, ℕ, zero, suc, ◌+◌, ◌-◌, ◌<◌, ◌≤◌, Bool, true, false, cond, ltb, leb, List, [], ◌∷◌, ◌++◌, length, get_or, Option, Some, None, is_some, option_map, refl, sym, ap, ap₂, subst, ◌∙◌, arith}
+use Rattle.std.proofs.Common.{◌≡◌, ◌⊎◌, inl, inr, ℕ, zero, suc, ◌-◌, ◌<◌, ◌≤◌, Bool, true, false, cond, ltb, List, [], ◌∷◌, ◌++◌, length, get_or, Option, Some, None, is_some, refl, sym, ap, subst, ◌∙◌, arith}
 use Rattle.std.specs.List.{AllByRecursion}
-use Rattle.std.specs.List.Sorted.{IsNonDecreasingBy, IsPartitionPoint}
+use Rattle.std.specs.List.Sorted.{IsPartitionPoint}
 use Rattle.std.proofs.lemmas.List.Sorted.{IsNonDecreasingBy-push}
-use Rattle.std.proofs.lemmas.Bool.{ltb-true, ltb-false, le-leb, lt-leb, lt-ltb, le-ltb, cases_lt}
+use Rattle.std.proofs.lemmas.Bool.{lt-ltb, le-ltb, cases_lt}
 use Rattle.lb_base.specs.declared.value.Mode.{Mode}
-use Rattle.lb_base.specs.declared.value.Mode.TheVariants.{R, W, T}
 use Rattle.boki_types.specs.declared.body.Body.{Body}
-use Rattle.boki_model.specs.Live.{Live, upto}
+use Rattle.boki_model.specs.Live.{Live}
 use Rattle.boki_model.specs.LogLaws.{FallBelow}
 use Rattle.boki_model.proofs.Logs.{upto_here, upto_skip, upto_all}
-use Rattle.boki_model.specs.Modes.{Switch, Modes, modes, mode_after, effective_mode, same_mode, begin_switch, all_ended}
+use Rattle.boki_model.specs.Modes.{Modes, modes, mode_after, effective_mode, same_mode, begin_switch, all_ended}
 use Rattle.boki_machine.specs.Step.{records_below}
 use Rattle.log_folds.specs.Opens.{open_invocations, ends_switch_by}
 use Rattle.log_folds.proofs.Opens.{are_kept}
 use Rattle.hm_switch.specs.declared.marks.Mark.{Mark}
-use Rattle.hm_switch.specs.declared.marks.Mark.TheVariants as m
 use Rattle.hm_switch.specs.declared.change.Pending.{Pending}
 use Rattle.hm_switch.specs.declared.change.Change.{Change}
 use Rattle.hm_switch.specs.Marks.{Comes}

@@ -1,8 +1,8 @@
 -- The next marked record, by the next ones of its tags.
-use Rattle.std.proofs.Common.{◌≡◌, ◌⊎◌, inl, inr, ℕ, suc, ◌+◌, ◌^◌, ◌<◌, ◌≤◌, max, Bool, true, false, cond, eqb, leb, ltb, ◌&&◌, ◌||◌, List, [], ◌∷◌, Option, Some, None, option_map, refl, sym, ap, ap₂, subst, ◌∙◌, arith}
+use Rattle.std.proofs.Common.{◌≡◌, ◌⊎◌, inl, inr, ℕ, suc, ◌+◌, ◌^◌, ◌<◌, ◌≤◌, max, Bool, true, false, cond, leb, ◌&&◌, ◌||◌, List, [], ◌∷◌, Option, Some, None, refl, sym, ap, ap₂, subst, ◌∙◌, arith}
 use Rattle.std.specs.List.{AllByRecursion}
 use Rattle.std.specs.Option.{option_or}
-use Rattle.std.proofs.lemmas.Bool.{leb-true, leb-false, le-leb, lt-leb, eq-eqb, ne_eqb, eqb-true, cases_lt, or_from}
+use Rattle.std.proofs.lemmas.Bool.{leb-true, leb-false, le-leb, eq-eqb, ne_eqb, cases_lt, or_from}
 use Rattle.lb_base.specs.declared.value.Tag.{Tag}
 use Rattle.boki_types.specs.declared.body.Body.{Body}
 use Rattle.boki_model.specs.Live.{Live, has_tag}
@@ -15,7 +15,7 @@ use Rattle.book_api.specs.Books.{BookState, position, seen, trim_of_bytes}
 use Rattle.book_api.proofs.Trimmed.{hidden_none}
 use Rattle.step_log.specs.Sound.{body_of, view}
 use Rattle.hm_switch.specs.Marks.{is_marked}
-use Rattle.hm_switch.specs.Next.{earlier, AreUnmarked, IsNext, IsNextMarked}
+use Rattle.hm_switch.specs.Next.{earlier, AreUnmarked, IsNextMarked}
 
 -- the first record from a seqnum on whose tags pass a test
 pub record IsFirst (test : List Tag → Bool) (from seq : ℕ) (records : List (Live Body)) : Type 0 where

@@ -1,5 +1,5 @@
 -- What a record does, by what it says.
-use Rattle.std.proofs.Common.{◌≡◌, ℕ, max, Bool, true, false, cond, leb, ◌&&◌, ◌||◌, List, [], ◌∷◌, Option, Some, None, refl, ap, ◌∙◌}
+use Rattle.std.proofs.Common.{◌≡◌, ℕ, max, Bool, true, false, cond, leb, ◌&&◌, ◌||◌, List, ◌∷◌, Option, Some, None, refl, ap, ◌∙◌}
 use Rattle.std.specs.Prelude.{bytes_eq, is_some}
 use Rattle.std.specs.Option.{option_or}
 use Rattle.lb_base.specs.declared.value.Mode.{Mode}

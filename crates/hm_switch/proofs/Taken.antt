@@ -1,11 +1,11 @@
 -- A view goes on by one record.
-use Rattle.std.proofs.Common.{◌≡◌, ℕ, max, Bool, true, false, cond, leb, ltb, ◌&&◌, List, [], ◌∷◌, Option, refl, sym, ap, subst, ◌∙◌, arith}
+use Rattle.std.proofs.Common.{◌≡◌, ℕ, max, cond, leb, ◌&&◌, List, ◌∷◌, Option, refl, sym, ap, subst, ◌∙◌, arith}
 use Rattle.boki_types.specs.declared.body.Body.{Body}
 use Rattle.boki_types.specs.declared.body.Body.TheVariants as b
 use Rattle.boki_model.specs.Live.{Live}
 use Rattle.boki_model.specs.Modes.{all_ended}
 use Rattle.boki_model.specs.Floor.{floor, counted_trim}
-use Rattle.log_folds.specs.Opens.{open_invocations, none_open_below}
+use Rattle.log_folds.specs.Opens.{open_invocations}
 use Rattle.log_folds.proofs.Opens.{are_kept}
 use Rattle.lb_base.specs.declared.value.Mode.{Mode}
 use Rattle.hm_switch.specs.declared.marks.Mark.{Mark}
@@ -15,9 +15,9 @@ use Rattle.hm_switch.specs.declared.change.Pending.{Pending}
 use Rattle.hm_switch.specs.declared.change.Change.{Change}
 use Rattle.hm_switch.specs.Marks.{Comes}
 use Rattle.hm_switch.specs.Lives.{AreLives, GoOn}
-use Rattle.hm_switch.specs.Modes.{AreModes, ModesGoOn, ModesEnd}
+use Rattle.hm_switch.specs.Modes.{ModesGoOn, ModesEnd}
 use Rattle.hm_switch.specs.SwitchStates.{SwitchState, IsFoldOf, Takes}
-use Rattle.hm_switch.proofs.Says.{open_by, counted_by, modes_by, counts_by}
+use Rattle.hm_switch.proofs.Says.{counted_by, counts_by}
 use Rattle.hm_switch.proofs.GoesOn.{still}
 use Rattle.hm_switch.proofs.ModesGo.{unchanged}
 

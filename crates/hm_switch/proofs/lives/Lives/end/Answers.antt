@@ -1,5 +1,4 @@
 use Rattle.std.proofs.Common.{sym, ap, ◌∙◌}
-use Rattle.hm_switch.specs.Lives.{since_in}
 use Rattle.hm_switch.proofs.GoesOn.{closes, closes_none, says_open}
 use Rattle.hm_switch.proofs.Found.{since_open, not_open}
 use Rattle.hm_switch.proofs.lives.Lives.end.Goals as goal

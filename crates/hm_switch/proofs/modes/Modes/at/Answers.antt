@@ -1,4 +1,4 @@
-use Rattle.std.proofs.Common.{ltb, rules, sym, ap, subst, true, false, ◌≡◌, ◌∙◌, ◌<◌, ◌≤◌, length, arith}
+use Rattle.std.proofs.Common.{ltb, rules, sym, ap, subst, true, false, ◌≡◌, ◌∙◌, length, arith}
 use Rattle.std.specs.List.Sorted.{IsNonDecreasingBy, IsPartitionPoint}
 use Rattle.std.proofs.lemmas.List.Sorted.{IsPartitionPoint-from_clause, IsPartitionedBy-ltb}
 use Rattle.hm_switch.specs.declared.change.Change.{Change}

@@ -1,4 +1,4 @@
-use Rattle.std.proofs.Common.{sym, ap, refl, ◌∙◌}
+use Rattle.std.proofs.Common.{sym, refl, ◌∙◌}
 use Rattle.lb_base.specs.declared.value.Mode.TheVariants.{T}
 use Rattle.hm_switch.specs.declared.marks.Mark.TheVariants as said
 use Rattle.hm_switch.proofs.ModesGo.{unchanged, changed, pends_already, is_current, pends_now}

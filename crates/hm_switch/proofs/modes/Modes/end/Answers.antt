@@ -1,4 +1,4 @@
-use Rattle.std.proofs.Common.{rules, sym, ap, refl, None, ◌≡◌, ◌∙◌}
+use Rattle.std.proofs.Common.{rules, sym, refl, None, ◌≡◌, ◌∙◌}
 use Rattle.hm_switch.specs.declared.marks.Mark.TheVariants as said
 use Rattle.hm_switch.proofs.ModesGo.{unchanged, changed, nothing_pends, one_is_open, all_have_ended}
 use Rattle.hm_switch.proofs.modes.Modes.end.Goals as goal

@@ -1,4 +1,4 @@
-use Rattle.std.proofs.Common.{◌≡◌, ◌∙◌, refl, sym, ap, subst}
+use Rattle.std.proofs.Common.{◌∙◌, refl, sym, ap, subst}
 use Rattle.step_log.specs.Sound.{view}
 use Rattle.hm_switch.specs.Lives.{AreLives}
 use Rattle.hm_switch.specs.SwitchStates.{SwitchState}
@@ -22,5 +22,5 @@ returns-in_ok-sent-in-None-clause-ok c =
       pends c.args.book.now c.args.engine c.args.self.now c.in-Some.switch _ c.requires.current
           (sym (ap (λ (s : SwitchState). s.pending) c.self.view_is) ∙ c.in-Some.is)
           (sym c.in-None.is ∙ c.least_open.ensures seen lives),
-      c.in_ok-sent.ensures.ok,
+      c.in_ok-sent-in-None.ensures.ok,
     )

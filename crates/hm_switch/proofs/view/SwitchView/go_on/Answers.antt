@@ -1,8 +1,8 @@
-use Rattle.std.proofs.Common.{ℕ, suc, sym, ap, subst, ◌≡◌, ◌∙◌}
+use Rattle.std.proofs.Common.{ℕ, suc, sym, ap, subst, ◌∙◌}
 use Rattle.book_api.specs.Books.{position}
 use Rattle.step_log.specs.Sound.{view}
 use Rattle.hm_switch.specs.Next.{AreUnmarked, IsNext}
-use Rattle.hm_switch.specs.SwitchStates.{SwitchState, GoesOn}
+use Rattle.hm_switch.specs.SwitchStates.{GoesOn}
 use Rattle.hm_switch.proofs.Going.{passes, goes_to}
 use Rattle.hm_switch.proofs.Marked.{on_ok}
 use Rattle.hm_switch.proofs.view.SwitchView.go_on.Goals as goal
