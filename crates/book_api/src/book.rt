@@ -1,6 +1,6 @@
 //! The LogBook: shards, their order, and a view for each engine.
 
-ghost use Rattle.std.specs.Prelude.{◌≡◌, ◌<◌, ◌≤◌, [], length, replicate, IfOk, All};
+ghost use Rattle.std.specs.Prelude.{◌≡◌, ◌<◌, ◌≤◌, ◌+◌, ◌^◌, [], length, replicate, IfOk, All};
 ghost use Rattle.lru.specs.LruCache.{lru_cache};
 ghost use Rattle.eng_index.specs.IndexState.{IsIndexOf};
 ghost use Rattle.book_api.specs.Books.{new_book, ordered, position, HasEngine};
@@ -73,6 +73,16 @@ impl Book {
         ensures { result ≡ position self.now engine }
     {
         self.index_of(engine).position()
+    }
+
+    /// How many of the ordered records the engine doesn't see yet.
+    pub fn behind(&self, engine: u32) -> u64
+        requires { HasEngine engine self.now }
+        ensures value { result + position self.now engine ≡ length (ordered self.now) }
+        ensures few { position self.now engine ≤ 2 ^ 63 }
+    {
+        let _index = self.index_of(engine);
+        self.length() - self.position(engine)
     }
 
     // The engine's index.
