@@ -12,7 +12,8 @@ use std::alloc::Global;
 const MOST_RECORDS: u64 = 9_223_372_036_854_775_808;
 
 impl Book {
-    /// Adds a record to the engine's home shard, and answers where it stands. It is live wherever it is ordered.
+    /// Adds a record to the engine's home shard, and answers where it stands. It is live wherever it is ordered. It needs 1 to 8
+    /// tags and at most 4,096 bytes, of both of which the record has copies.
     ///
     /// After `Memory` the book is as before.
     pub fn append(&mut self, engine: u32, tags: &[Tag], bytes: &[u8]) -> Result<Sent, Memory>
@@ -49,8 +50,8 @@ impl Book {
         self.send(engine, rec)
     }
 
-    /// Adds this record to the engine's home shard, and answers where it stands. After `Memory` the book is as before, and the record
-    /// is dropped.
+    /// Adds this record to the engine's home shard, and answers where it stands. Nothing is copied. After `Memory` the book is as
+    /// before, and the record is dropped.
     pub fn send(&mut self, engine: u32, rec: Record) -> Result<Sent, Memory>
         requires { HasEngine engine self.old }
         ensures ok { IfOk result (IsSent engine rec self.old self.new) }

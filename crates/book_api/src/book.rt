@@ -42,6 +42,7 @@ impl Model for Book {
 
 impl Book {
     /// A book with no record, whose engines are at position 0: of 1 to 16 shards with 1 to 5 replicas each, and 1 to 16 engines.
+    /// `Memory` comes only where there is no room for it.
     pub fn new(alloc: Global, shards: u32, replicas: u32, engines: u32) -> Result<Book, Memory>
         requires shards { (1 ≤ shards) × (shards ≤ 16) }
         requires replicas { (1 ≤ replicas) × (replicas ≤ 5) }
@@ -60,14 +61,14 @@ impl Book {
         })
     }
 
-    /// How many records are ordered: the greatest seqnum, or 0.
+    /// How many records are ordered: the greatest seqnum, or 0. It takes no memory.
     pub fn length(&self) -> u64
         ensures { result ≡ length (ordered self.now) }
     {
         self.metalog.length()
     }
 
-    /// How many of the ordered records the engine sees.
+    /// How many of the ordered records the engine sees: the greatest seqnum that it reads, or 0. It takes no memory.
     pub fn position(&self, engine: u32) -> u64
         requires { HasEngine engine self.now }
         ensures { result ≡ position self.now engine }

@@ -15,7 +15,7 @@ const USER_TAGS: u64 = 72_057_594_037_927_936;
 
 impl Book {
     /// The live record of the tag at a place, of those that the engine sees, or None where there is none. Places are counted from
-    /// 0, over the tag's live records. It takes no memory, as no read does.
+    /// 0, over the tag's live records, hidden ones too. It takes no memory, as no read does.
     pub fn nth(&self, engine: u32, tag: Tag, place: u64) -> Option<Seqnum>
         requires { HasEngine engine self.now }
         ensures { option_map (λ seq. seq.0) result ≡ nth_seq tag.0 place (seen self.now engine) }
@@ -23,7 +23,7 @@ impl Book {
         self.index_of(engine).nth(tag, place)
     }
 
-    /// How many live records of the tag the engine sees.
+    /// How many live records of the tag the engine sees, hidden ones too.
     pub fn count(&self, engine: u32, tag: Tag) -> u64
         requires { HasEngine engine self.now }
         ensures { result ≡ count tag.0 (seen self.now engine) }
@@ -31,7 +31,7 @@ impl Book {
         self.index_of(engine).count(tag)
     }
 
-    /// The seqnums of the tag's live records that the engine sees, ascending.
+    /// The seqnums of the tag's live records that the engine sees, ascending, hidden ones too. They are lent.
     pub fn seqnums(&self, engine: u32, tag: Tag) -> &[u64]
         requires { HasEngine engine self.now }
         ensures { result.now ≡ reverse (tagged_seqnums tag.0 (seen self.now engine)) }
