@@ -166,9 +166,10 @@ invocation_state setup fs store path (x ∷ xs) = after_record setup fs store xs
 abbrev pub oldest : {X : Type 0} → ℕ → List X → List X
 oldest n xs = drop (length xs - n) xs
 
--- the first n answers that are decided, or all of them where there are fewer; the newest stands first. Of an invocation that
--- hasn't begun nothing is decided.
+-- the first n answers that are decided, or all of them where there are fewer; the newest stands
+-- first. Of an invocation that hasn't begun nothing is decided.
 abbrev pub first_decided_answers : Setup → List Function → Store → List (Live Body) → List ℕ → ℕ → List Answer
 first_decided_answers setup fs store records path n =
     let state = invocation_state setup fs store path records in
-    if state.begun then oldest n (with_free_answers fs store records path state (n - length state.answers)) else []
+    let count = n - length state.answers in
+    if state.begun then oldest n (with_free_answers fs store records path state count) else []

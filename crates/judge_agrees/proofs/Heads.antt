@@ -1,35 +1,19 @@
 -- The head of a plan that a text spells is read again, with the word `turns` at its end.
-use Rattle.std.proofs.Common.{◌≡◌, ℕ, ◌≤◌, Bool, true, false, cond, List, [], length, Option, Some, None, Result, Ok, Err, refl, ap, ◌∙◌, subst}
-use Rattle.std.specs.Prelude.{IfOk, codes, nat_lt}
+use Rattle.std.proofs.Common.{◌≡◌, true, [], None, refl, ap, ◌∙◌}
+use Rattle.std.specs.Prelude.{codes}
 use Rattle.std.specs.List.{list_all}
 use Rattle.std.specs.Str.{IsUtf8}
 use Rattle.std.proofs.lemmas.Str.{IsUtf8-append}
-use Rattle.boki_types.specs.declared.kind.Kind.{Kind}
-use Rattle.boki_types.specs.declared.kind.Kind.TheVariants as kind
-use Rattle.boki_types.specs.declared.plan.Item.{Item}
 use Rattle.boki_types.specs.declared.plan.Plan.{Plan}
 use Rattle.boki_model.specs.Plans.{is_setup}
 use Rattle.script_lang.specs.declared.draft.Draft.{Draft}
 use Rattle.script_lang.specs.declared.draft.Stage.TheVariants.{Between}
 use Rattle.script_lang.specs.Names.{name_fault, fault_or_else}
-use Rattle.script_lang.proofs.DraftsInLimits.{FunctionInLimits}
-use Rattle.script_lang.proofs.StmtsInLimits.{AllOf}
 use Rattle.script_lang.proofs.ProgramsParseBack.{functions_free}
-use Rattle.plan_lang.specs.declared.bodies.RepeatBlock.{RepeatBlock}
-use Rattle.plan_lang.specs.declared.drafts.PlanDraft.{PlanDraft}
-use Rattle.line_text.specs.declared.fault.TextFault.{TextFault}
 use Rattle.plan_lang.specs.declared.heads.Expected.TheVariants as expected
-use Rattle.plan_lang.specs.declared.heads.Head.{Head}
-use Rattle.plan_lang.specs.Heads.{has_ended, objects_fault}
 use Rattle.plan_lang.specs.Printed.{head_text}
-use Rattle.line_text.specs.Texts.{scan_lines}
-use Rattle.line_text.specs.Faults.{refused_at}
-use Rattle.plan_lang.specs.Texts.{plan_line, empty_plan_draft, head_fault, plan_of_parts, plan_or_fault, plan_if_whole, plan_of_scan, plan_of_lines, plan_of}
-use Rattle.plan_lang.proofs.CleanHeads.{CleanHead, is_clean_function, is_clean_object}
-use Rattle.plan_lang.proofs.CleanPlans.{is_clean_item, CleanPlan, plan_keeps_clean, no_plan_clean}
-use Rattle.plan_lang.proofs.PlansInLimits.{object_test, HeadInLimits, FoundInLimits, scan_in_limits, none_or, few_functions}
+use Rattle.plan_lang.proofs.PlansInLimits.{object_test}
 use Rattle.plan_lang.proofs.HeadsParseBack.{headed, turns_close, head_parses_back}
-use Rattle.line_text.proofs.LineInvariants.{kept}
 use Rattle.plan_lang.proofs.PlansParseBack.{Origin, objects_free}
 use Rattle.plan_lang.proofs.PrintedLines.{plain_inline}
 use Rattle.plan_lang.proofs.PrintedUtf8.{line_utf8, head_utf8}

@@ -1,5 +1,5 @@
 -- A request in a shard comes from an event that a plan can have, since an event submitted it and no step sends one.
-use Rattle.std.proofs.Common.{◌≡◌, ℕ, zero, suc, true, false, ◌&&◌, List, [], ◌∷◌, length, None}
+use Rattle.std.proofs.Common.{◌≡◌, ℕ, zero, suc, true, false, ◌&&◌, List, [], length}
 use Rattle.std.specs.Prelude.{IsTrue, IfSome, is_some, replicate}
 use Rattle.std.specs.List.{list_all, AllByRecursion}
 use Rattle.std.proofs.lemmas.Bool.{and_parts}

@@ -3,7 +3,7 @@
 use Rattle.std.specs.Prelude.{ℕ, zero, suc, ◌-◌, ◌==◌, ◌&&◌, nat_le, Bool, true, false, cond, List, [], ◌∷◌, length, Option, Some, None, option_map, option_and_then, unwrap_or, Result, Ok, Err, bytes_eq, slice_index}
 use Rattle.lb_base.specs.declared.value.Value.{Value}
 use Rattle.lb_base.specs.declared.value.Mode.{Mode}
-use Rattle.lb_base.specs.declared.value.Mode.TheVariants.{R, W}
+use Rattle.lb_base.specs.declared.value.Mode.TheVariants.{R, W, T}
 use Rattle.boki_types.specs.declared.body.Body.{Body}
 use Rattle.boki_types.specs.declared.body.Body.TheVariants as b
 use Rattle.boki_types.specs.declared.operation.Op.{Op}
@@ -25,6 +25,7 @@ use Rattle.boki_machine.specs.Decided.{transaction_after}
 use Rattle.boki_machine.specs.Turns.{turns, add_next_index}
 use Rattle.boki_machine.specs.Reports.{ideal_report}
 use Rattle.boki_machine.specs.Ideal.{Ideal, running_invocation, invocation_ask, apply_turn, initial_ideal}
+use Rattle.exactly_once.specs.FurtherLaws.LogEconomy.{is_read, is_write}
 use Rattle.legal_logs.specs.Same.{same_outcome, same_names, same_values, same_writes, is_number}
 
 -- What a record says against what the script asks.
@@ -61,10 +62,9 @@ matches_ask fs open_begin body ask = matches_end body ask
 
 -- an operation that has no record: a read of objects in mode R, a write in mode W, and none in mode T
 abbrev pub is_free : Mode → Ask → Bool
-is_free R (k.Op (o.Read key)) = true
-is_free R (k.Op (o.ReadGroup keys)) = true
-is_free W (k.Op (o.Write key value)) = true
-is_free _ _ = false
+is_free R ask = is_read ask
+is_free W ask = is_write ask
+is_free T ask = false
 
 -- Turns that are tested before they run.
 

@@ -22,7 +22,7 @@ use Rattle.exactly_once.proofs.Asking.SpawnOrdinals.{set_each_spawned, set_targe
 use Rattle.machine_laws.specs.Children.{IsChild, AsksChild, HasPath, ChildrenHavePaths}
 use Rattle.boki_types.specs.Finding.{find, function_at}
 use Rattle.boki_model.specs.Values.{and_then, as_condition, eval, eval_all, to_name, to_names}
-use Rattle.boki_model.specs.Script.{Block, Branch, Loop, State, Target, Nowhere, One, Each, StopPoint, AtOperation, AtEnd, Flow, Next, Skip, Enter, Stop, set_variable, set_variables, push_block, pop_block, then_flow, stop_at, stop_with_trap, unless_none, outside_transaction, inside_transaction, spawn_flow, join_flow, pair_writes, pair_names, pair_expressions, both_sides, left_values, end_block, execute, Skipped, BlockEnds, ElseBegins, SkipsOn, skip_line, execute_from, enter_body, entries, run_script, initial_state, start_function, set_target, set_targets, set_joined, apply_answer, continue_after, resume, stop_point, ask_of, next_ask}
+use Rattle.boki_model.specs.Script.{Block, Branch, Loop, State, Target, Nowhere, One, Each, StopPoint, AtOperation, AtEnd, Flow, Next, Skip, Enter, Stop, push_block, pop_block, then_flow, stop_at, stop_with_trap, unless_none, outside_transaction, inside_transaction, spawn_flow, join_flow, pair_writes, pair_names, pair_expressions, both_sides, left_values, end_block, execute, Skipped, BlockEnds, ElseBegins, SkipsOn, skip_line, execute_from, enter_body, entries, run_script, initial_state, start_function, set_joined, apply_answer, continue_after, resume, stop_point, ask_of, next_ask}
 
 -- a script at this depth that has spawned so many children
 record Fits (depth spawned : ℕ) : Type 0 where

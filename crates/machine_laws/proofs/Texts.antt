@@ -1,42 +1,21 @@
 -- What users wrote stays text.
-use Rattle.std.proofs.Common.{◌≡◌, ℕ, zero, suc, ◌-◌, Bool, true, false, cond, eqb, leb, ltb, ◌&&◌, not, List, [], ◌∷◌, length, Option, Some, None, refl, sym, subst}
+use Rattle.std.proofs.Common.{◌≡◌, ℕ, zero, suc, ◌-◌, Bool, true, false, cond, eqb, leb, ◌&&◌, not, List, [], ◌∷◌, length, Option, Some, None, refl, sym, subst}
 use Rattle.std.specs.Prelude.{is_some, replicate, take, slice_index_or, slice_set}
 use Rattle.std.specs.List.{filter, AllByRecursion}
 use Rattle.std.specs.Str.{IsUtf8}
 use Rattle.std.proofs.lemmas.Str.{IsUtf8-nil}
-use Rattle.lb_base.specs.declared.value.Value.{Value}
-use Rattle.lb_base.specs.declared.value.Mode.{Mode}
-use Rattle.lb_base.specs.declared.value.Mode.TheVariants.{R, W, T}
-use Rattle.lb_base.specs.declared.value.Outcome.{Outcome}
 use Rattle.boki_types.specs.declared.body.Body.{Body}
 use Rattle.boki_types.specs.declared.body.Body.TheVariants as b
 use Rattle.boki_types.specs.declared.event.Event.TheVariants as v
-use Rattle.boki_types.specs.declared.line.Life.{Life}
-use Rattle.boki_types.specs.declared.line.Life.TheVariants.{Running, Over, Stopped, Killed}
 use Rattle.boki_types.specs.declared.line.Line.TheVariants as line
-use Rattle.boki_types.specs.declared.line.StepLine.{StepLine}
-use Rattle.boki_types.specs.declared.line.StepLine.TheVariants as l
-use Rattle.boki_types.specs.declared.log.Call.{Call}
-use Rattle.boki_types.specs.declared.log.Sent.{Sent}
-use Rattle.boki_types.specs.declared.operation.Op.{Op}
-use Rattle.boki_types.specs.declared.operation.Op.TheVariants as o
-use Rattle.boki_types.specs.declared.operation.Ask.{Ask}
-use Rattle.boki_types.specs.declared.operation.Ask.TheVariants as k
-use Rattle.boki_types.specs.declared.operation.Answer.{Answer}
-use Rattle.boki_types.specs.declared.operation.Answer.TheVariants as a
 use Rattle.boki_types.specs.declared.plan.Setup.{Setup}
 use Rattle.boki_types.specs.declared.program.Function.{Function}
-use Rattle.boki_types.specs.declared.store.Put.{Put}
-use Rattle.boki_types.specs.declared.store.Put.TheVariants as put
 use Rattle.boki_model.specs.Live.{LogRecord, Live, meets_condition, live, upto}
 use Rattle.boki_model.specs.Order.{entry_records, last_vector, order, progress}
-use Rattle.boki_model.specs.Reads.{nth}
-use Rattle.boki_model.specs.Bodies.{step_tag, step_of, child}
-use Rattle.boki_model.specs.Modes.{Switch, least_open, modes, result_of}
-use Rattle.boki_model.specs.Writes.{Store, read_free, read_fenced, after_read_fenced, after_put_named, put_at}
-use Rattle.boki_machine.specs.Attempt.{Attempt, Move, next_index, moves, sends_record, answered_with, call_of}
-use Rattle.std.specs.Prelude.{zip}
-use Rattle.boki_machine.specs.Step.{seqnum, stop_gone, fenced_value, read_all, next_write_name, function_name, has_index, adopts_answer, adopts_marker, adopts_join, adopts_operation, reads, reads_group, logged_write_step, is_inline, free_write_step, writes, join_step, operation_step, unless_waiting, script_step, answers_to, adopt_or, init_step, attempt_ask, step_at_place, step_when_called, step_if_running, step}
+use Rattle.boki_model.specs.Bodies.{step_of}
+use Rattle.boki_model.specs.Modes.{Switch, least_open, modes}
+use Rattle.boki_machine.specs.Attempt.{Attempt, Move}
+use Rattle.boki_machine.specs.Step.{function_name, step}
 use Rattle.boki_machine.specs.Machine.{Aux, Machine, event_result, log, live_records, view, position, home_shard, next_sent, append_to, log_record, unconditional_record, submit_record, first_tag, cut, cuts_nothing, attempt_at, with_attempt, start_attempt, append_sent, apply_move, step_attempt, kill_attempt, lose_record, miss_attempt, end_if_all_ended, send_switch_end, user_text, user_text_at, aux_of, aux_at, move_to_front, with_aux, set_aux, get_aux}
 use Rattle.exactly_once.specs.FurtherLaws.Words.{IsAmong, all_records}
 use Rattle.exactly_once.proofs.Log.ListElements.{each_append, each_weaker, each_tail}

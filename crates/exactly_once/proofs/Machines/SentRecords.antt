@@ -35,7 +35,7 @@ use Rattle.boki_model.specs.Order.{progress}
 use Rattle.boki_model.specs.Writes.{Store, put_at, after_read_fenced}
 use Rattle.boki_machine.specs.Attempt.{Attempt, Move, next_index, call_of}
 use Rattle.boki_machine.specs.Step.{function_name, has_index, stop_gone, adopts_answer, adopts_marker, adopts_join, adopts_operation, reads, reads_group, logged_write_step, is_inline, free_write_step, writes, join_step, operation_step, unless_waiting, script_step, answers_to, adopt_or, init_step, attempt_ask, step_at_place, step_when_called, step_if_running, step}
-use Rattle.boki_machine.specs.Machine.{Machine, view, position, event_result, home_shard, next_sent, append_to, log_record, unconditional_record, submit_record, first_tag, cut, cuts_nothing, attempt_at, with_attempt, start_attempt, append_sent, step_attempt, kill_attempt, lose_record, miss_attempt, end_if_all_ended, send_switch_end, with_aux, set_aux, get_aux, aux_at, aux_of, apply_event}
+use Rattle.boki_machine.specs.Machine.{Machine, view, position, event_result, home_shard, next_sent, append_to, log_record, unconditional_record, submit_record, first_tag, cut, cuts_nothing, attempt_at, with_attempt, start_attempt, append_sent, step_attempt, kill_attempt, lose_record, miss_attempt, end_if_all_ended, send_switch_end, with_aux, get_aux, aux_at, aux_of, apply_event}
 use Rattle.exactly_once.specs.FurtherLaws.Words.{all_records}
 use Rattle.exactly_once.proofs.Machines.ShardsAndVectors.{each_add}
 

@@ -48,11 +48,15 @@ pub record StepsStay (setup : Setup) (fs : List Function) (m : Machine) (a : Att
 -- Of an invocation's records in the ordered list:
 pub record EndIsLast (m : Machine) (path : List ℕ) : Type 0 where
   -- no live step record has a seqnum above its Finish's
-  pub last : (x end : Live Body) (index : ℕ) → IsAmong x (live_records m) → step_of x.holds ≡ Some (path, index) → Finishes path (live_records m) end → x.seq ≤ end.seq
+  pub last :
+      (x end : Live Body) (index : ℕ) → IsAmong x (live_records m)
+      → step_of x.holds ≡ Some (path, index) → Finishes path (live_records m) end → x.seq ≤ end.seq
   -- a step record with a Finish among those before it is dead, wherever it stands, whether or not one cut ordered both
   pub dead_behind :
-      (newer older : List (LogRecord Body)) (r : LogRecord Body) (index : ℕ) → log m ≡ newer ++ r ∷ older
-      → IsEnded path (live older) → step_of r.holds ≡ Some (path, index) → meets_condition r.condition (live older) ≡ false
+      (newer older : List (LogRecord Body)) (r : LogRecord Body) (index : ℕ)
+      → log m ≡ newer ++ r ∷ older
+      → IsEnded path (live older) → step_of r.holds ≡ Some (path, index)
+      → meets_condition r.condition (live older) ≡ false
 
 pub record EndedHaveNoEffect (setup : Setup) (fs : List Function) (m : Machine) : Type 0 where
   pub stay : (a : Attempt) → IsAmong a (attempts_of m) → IsEnded a.path (live_records m) → StepsStay setup fs m a

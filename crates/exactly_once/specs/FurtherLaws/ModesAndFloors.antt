@@ -29,11 +29,13 @@ AreExclusive R W = Unit {0}
 AreExclusive W R = Unit {0}
 AreExclusive _ _ = ⊥
 
--- Of two invocations, one of mode R and one of mode W, the one whose Init comes first has its Finish below the other's Init.
+-- Of two invocations, one of mode R and one of mode W, the one whose Init comes first has its
+-- Finish below the other's Init.
 abbrev pub NeverBeside : Mode → List (Live Body) → Type 0
 NeverBeside first records =
     (p q : List ℕ) (i j : ℕ) (m n : Mode)
-    → BeganInMode first records p i m → BeganInMode first records q j n → AreExclusive m n → i < j → IsEnded p (records_below j records)
+    → BeganInMode first records p i m → BeganInMode first records q j n → AreExclusive m n → i < j
+    → IsEnded p (records_below j records)
 
 -- So it is whatever the ordered list, and the mode that it begins with.
 abbrev pub ModesExclude : Type 0
