@@ -14,7 +14,7 @@ TOP = pathlib.Path(__file__).resolve().parent.parent
 CRATES = ["boki_model", "boki_machine", "exactly_once", "run_with"]
 # Crates whose public functions have empty bodies, and laws as their contracts.
 LAWS = """books_alone exactly_once flow_once judge_agrees legal_logs log_folds machine_laws run_with script_ranges
-    store_laws switch_laws transfer_laws""".split()
+    step_laws store_laws switch_laws transfer_laws""".split()
 # What the proof of exactly_once goes by, and no reader needs to believe, stands in this folder of its specs.
 INVARIANT = "Induction"
 

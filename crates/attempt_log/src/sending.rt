@@ -18,6 +18,9 @@ use step_log::send;
 
 /// Sends the record of what an attempt's script asks, at the attempt's place; of a write it has the value that is to stand in the
 /// record, if any. The attempt then waits for it. After `Memory` book and attempt are as before.
+///
+/// The attempt's engine is to be one of the book, the index of its next operation is to have 64 bits, the record is to be in range,
+/// and a child that is asked for is to have a path. That what is live is as before no clause says.
 pub fn send_asked(
     alloc: Global,
     program: &Program,
@@ -51,7 +54,8 @@ pub fn send_asked(
     Ok(located(line, sent))
 }
 
-/// Sends the Init of an attempt's invocation. The attempt then waits for it. After `Memory` book and attempt are as before.
+/// Sends the Init of an attempt's invocation. The attempt then waits for it. Its engine is to be one of the book. After `Memory` book
+/// and attempt are as before.
 pub fn send_init(alloc: Global, book: &mut Book, at: &mut Progress) -> Result<StepLine, Memory>
     requires engine { HasEngine at.old.engine book.old }
     ensures ok { IfOk result (IsInitSent at.old at.new book.old book.new) }
@@ -59,6 +63,7 @@ pub fn send_init(alloc: Global, book: &mut Book, at: &mut Progress) -> Result<St
     ensures err { OnErr result (book.new ≡ book.old) }
     ensures err_at { OnErr result (at.new ≡ at.old) }
 {
+    // A path has 1 to 4 numbers.
     let _depth = at.path.depth();
     let body = Body::Init { path: at.path };
     let sent = send_step(alloc, book, at, &body);

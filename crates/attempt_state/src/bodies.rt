@@ -14,7 +14,7 @@ use lb_base::{List, Memory, Outcome, Value, Words};
 use std::alloc::Global;
 
 /// The body of the record that an attempt sends for what its script asks. Of a write it has the value that is to stand in the
-/// record, if any.
+/// record, if any. The index of the attempt's next operation is to have 64 bits.
 pub fn body_of(
     alloc: Global,
     program: &Program,

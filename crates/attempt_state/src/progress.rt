@@ -56,7 +56,7 @@ impl Progress {
         }
     }
 
-    /// Behind the adoption of the record at a seqnum at its place. Memory comes where a place has no 64 bits.
+    /// Behind the adoption of the record at a seqnum at its place.
     pub fn adopted(self, seq: Seqnum) -> Result<Progress, Memory>
         ensures { IfOk result (λ p. p ≡ adopted_progress seq.0 self) }
     {
@@ -75,7 +75,7 @@ impl Progress {
         })
     }
 
-    /// Behind one more answer. Memory comes where the index of the operation that follows has no 64 bits.
+    /// Behind one more answer. The index of its next operation is to have 64 bits, and that of the one behind it then has them too.
     pub fn with_answer(self) -> Result<Progress, Memory>
         requires { self.answered + 1 < 2 ^ 64 }
         ensures answered { IfOk result (λ p. p ≡ answered_progress self) }
@@ -119,7 +119,7 @@ impl Progress {
         can
     }
 
-    /// The index of its next operation, from 1.
+    /// The index of its next operation, from 1. It is to have 64 bits.
     pub fn index(&self) -> u64
         requires { self.now.answered + 1 < 2 ^ 64 }
         ensures { result ≡ suc self.now.answered }

@@ -63,8 +63,9 @@ impl AttemptState {
         self.frame = None;
     }
 
-    /// Its script has an answer, and it stands where `changed` says, with one answer more. The script has to take the answer.
-    /// After `Memory` it is as before.
+    /// Its script has an answer, and it stands where `changed` says, with one answer more. The script has to take the answer, the
+    /// program has fewer than 2^32 functions, and the index of the next operation of `changed` is to have 64 bits. After `Memory` it is
+    /// as before.
     pub fn give(
         &mut self,
         alloc: Global,
@@ -91,8 +92,8 @@ impl AttemptState {
         Ok(())
     }
 
-    /// It adopts its Init: its script begins, and its mode is fixed. The call has to be of a function of the program, with as many
-    /// arguments as that takes. After `Memory` it is as before.
+    /// It adopts its Init: its script begins, and its mode is fixed. The call has to be of a function of the program, which has fewer
+    /// than 2^32, with as many arguments as the function takes. After `Memory` it is as before.
     pub fn begin(
         &mut self,
         alloc: Global,

@@ -25,7 +25,11 @@ const MOST_STATES: usize = 64;
 ///
 /// What is asked of a cache is answered from the newest state that it keeps below, and from the records above that. The
 /// states that it keeps are to be those of the book's ordered list, as those of a new cache or a cleared one are, and
-/// those that its calls keep. They may lie beyond what the engine sees.
+/// those that its calls keep. They may lie beyond what the engine sees. They stay so where newer records are ordered:
+/// `queue_folds_stay` says it of lists of records, and no law says it of books.
+///
+/// The states share their values: the cache holds each value that it has read of a queue's pushes, once, until it is
+/// cleared. No clause bounds that.
 #[derive(Drop)]
 pub struct QueueCache {
     alloc: Global,
@@ -103,9 +107,11 @@ impl QueueCache {
 
     /// What the pop with a seqnum takes: the queue's front before it, or none. The record is to be a live pop of the queue
     /// that the engine sees, in a sound book. The state behind it is then the one that was used most recently, if it has at
-    /// most 4,096 values. Each record of the queue's tag that is visited is a step: at most those above the newest
-    /// record of the queue below the seqnum behind which a state is kept, or all where there is none. After `Memory`
-    /// the cache is as before.
+    /// most 4,096 values. After `Memory` the cache is as before.
+    ///
+    /// A step is counted for each record of the queue's tag over which it goes back to a state that is kept: at most those
+    /// above the newest record of the queue below the seqnum behind which a state is kept, or all where there is none. The
+    /// same records are then gone over once more, uncounted; how often else records are looked at no clause says.
     pub fn pop_at<L: Ledger>(
         &mut self,
         book: &Book,

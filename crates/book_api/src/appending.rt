@@ -15,7 +15,8 @@ impl Book {
     /// Adds a record to the engine's home shard, and answers where it stands. It is live wherever it is ordered. It needs 1 to 8
     /// tags and at most 4,096 bytes, of both of which the record has copies.
     ///
-    /// After `Memory` the book is as before.
+    /// After `Memory` the book is as before. It comes too where the book has 2^63 records, which no clause says; so in each call that
+    /// adds a record.
     pub fn append(&mut self, engine: u32, tags: &[Tag], bytes: &[u8]) -> Result<Sent, Memory>
         requires engine { HasEngine engine self.old }
         requires tags { (1 ≤ length tags.now) × (length tags.now ≤ 8) }

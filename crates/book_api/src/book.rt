@@ -42,7 +42,6 @@ impl Model for Book {
 
 impl Book {
     /// A book with no record, whose engines are at position 0: of 1 to 16 shards with 1 to 5 replicas each, and 1 to 16 engines.
-    /// `Memory` comes only where there is no room for it.
     pub fn new(alloc: Global, shards: u32, replicas: u32, engines: u32) -> Result<Book, Memory>
         requires shards { (1 ≤ shards) × (shards ≤ 16) }
         requires replicas { (1 ≤ replicas) × (replicas ≤ 5) }
@@ -82,6 +81,7 @@ impl Book {
         ensures value { result + position self.now engine ≡ length (ordered self.now) }
         ensures few { position self.now engine ≤ 2 ^ 63 }
     {
+        // Positions are at most 2^63.
         let _index = self.index_of(engine);
         self.length() - self.position(engine)
     }

@@ -48,7 +48,7 @@ impl Book {
     }
 
     /// Takes from the engine what it had in memory: its position is 0, and it has no auxiliary data. It takes no memory, and keeps
-    /// the room of the engine's table of tags.
+    /// the room of the engine's table of tags, which no clause says.
     pub fn restart(&mut self, engine: u32)
         requires { HasEngine engine self.old }
         ensures { self.new ≡ restarted engine self.old }

@@ -56,6 +56,7 @@ impl SwitchView {
         ensures sound { Sound book.old → Sound book.new }
         ensures err { OnErr result (book.new ≡ book.old) }
     {
+        // Positions are at most 2^63.
         let _behind = book.behind(engine);
         let bound = self.trim_limit(book.position(engine));
         let sent = send(self.alloc, book, engine, Body::Trim { w: bound })?;

@@ -18,8 +18,8 @@ use std::marker::Model;
 /// It is a fold over live records that goes on: `advance` goes over those that came to the engine's position since, each of
 /// them once. What it tells costs a look-up, but for the least open path, which goes over the open invocations.
 ///
-/// It stays so while records are appended and ordered, and while the engine is caught up. Where the engine is restarted it is to
-/// be cleared.
+/// It is to stay so while records are appended and ordered, and while the engine is caught up: `advance` needs it, and no clause or
+/// law says it yet. Where the engine is restarted it is to be cleared.
 #[derive(Drop)]
 pub struct SwitchView {
     pub(crate) alloc: Global,

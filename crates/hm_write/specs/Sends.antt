@@ -12,7 +12,7 @@ use Rattle.book_api.specs.Books.{BookState}
 abbrev pub write_body : Name → ℕ → List ℕ → Option Value → Body
 write_body name index key value = body.Write name.path index name.place key value
 
--- The shards have the records that the vectors order, as those of every book do.
+-- The shards have the records that the vectors order, as those of every book do; no clause of `Book` says so.
 pub record HasOrdered (book : BookState) : Type 0 where
   pub grow : CountsGrow book.vectors
   pub have : ShardsHave book.shards (last_vector book.vectors)

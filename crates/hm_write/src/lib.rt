@@ -2,8 +2,8 @@
 //!
 //! An attempt of mode W puts a write into the object store as a version at its cursor, and appends nothing, where no later read of
 //! the object was fenced. A read of such an attempt is a marker in the log: it answers the last write below the marker, and raises
-//! the object's fence to it, so that no version comes in below it any more. In mode R a write is logged: its value is stored under
-//! its name first, or stands in its record.
+//! the object's fence to it, so that no version comes in below it any more. In modes R and T, and where it comes too late in mode W,
+//! a write is logged: its value is stored under its name first, or stands in its record.
 #![tactic(auto)]
 
 mod marked;

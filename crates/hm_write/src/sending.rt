@@ -1,4 +1,5 @@
-//! Logged writes and markers are sent.
+//! Logged writes and markers are sent. What is live is then as before where the shards have the records that the vectors order
+//! (`HasOrdered`). They do in every book, but no clause of `Book` says so: it is for the caller to know.
 ghost use Rattle.std.specs.Prelude.{◌≡◌, IsTrue, IfOk, OnErr};
 ghost use Rattle.std.specs.Option.{option_copied};
 ghost use Rattle.boki_types.specs.declared.body.Body.TheVariants as body;
@@ -16,8 +17,8 @@ use std::alloc::Global;
 use step_log::send;
 
 /// Sends a logged write as the record at its name's place, with this index and object, and with its value where one is given; else
-/// the value is to be under its name. It answers where the record stands. The fields are to be in range. What is live is as before;
-/// after `Memory` the whole book is.
+/// the value is to be under its name. It answers where the record stands. The fields are to be in range. What is live is as before,
+/// in a book that has what it orders; after `Memory` the whole book is.
 pub fn send_write(
     alloc: Global,
     book: &mut Book,
@@ -48,7 +49,8 @@ pub fn send_write(
 }
 
 /// Sends a marker: the invocation reads the object at this record, at this place of its step log and with this index. It answers
-/// where the record stands. The fields are to be in range. What is live is as before; after `Memory` the whole book is.
+/// where the record stands. The fields are to be in range. What is live is as before, in a book that has what it orders; after
+/// `Memory` the whole book is.
 pub fn mark_read(
     alloc: Global,
     book: &mut Book,

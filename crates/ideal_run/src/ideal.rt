@@ -53,8 +53,8 @@ impl Ideal {
     /// result; an end of such a path, or of a script that isn't done.
     ///
     /// It needs, in a submit, a request from 1 to 1,048,575. After Illegal and after `Memory` nothing is changed. An invocation's
-    /// frame is copied once a turn, and what the turn replaces is noted, so that it is put back without memory; the room that this
-    /// took is then given back.
+    /// frame is copied once a turn, and what the turn replaces is noted, so that it is put back without memory. Of the room that this
+    /// took little stays; no clause says how much.
     pub fn turn(&mut self, program: &Program, turn: &Turn) -> Result<(), TurnFault>
         requires few { length program.now.functions < 2 ^ 32 }
         requires request { HasRequest turn.now }

@@ -150,7 +150,8 @@ impl<J: Naming> LiveLog<J> {
     /// wait.
     ///
     /// The list begins with what the engine has seen and learned, and from now on the engine knows this record too. After
-    /// `Memory` the engine is as it was.
+    /// `Memory` the engine is as it was. No clause says so, but where it was publishing that wanted memory, each later append of this
+    /// log answers `Memory` too.
     pub fn append<R: Wait>(
         &self,
         rt: &R,

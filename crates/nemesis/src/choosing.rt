@@ -10,7 +10,7 @@ use std::alloc::Global;
 
 /// Keeps all that are handed in, each with its number, in their order.
 ///
-/// `Memory` where there is no room for the list of those that are kept; all are dropped then.
+/// After `Memory` all are dropped.
 pub fn keep_all(alloc: Global, handed: Vec<Box<dyn Nemesis + Send>>) -> Result<Vec<Kept>, Memory>
     requires few { vec_len handed ≤ 16 }
     ensures { IfOk result (λ kept. map (λ b. numbered_nemesis b.0 (automaton b.1)) kept.items ≡ all_kept (map (λ b. automaton b) handed.items)) }
@@ -27,7 +27,7 @@ pub fn keep_all(alloc: Global, handed: Vec<Box<dyn Nemesis + Send>>) -> Result<V
 /// Keeps the one that has a number, from 1, in the list that was handed in, and drops the others; none where
 /// no nemesis has that number.
 ///
-/// `Memory` where there is no room for it; all are dropped then.
+/// After `Memory` all are dropped.
 pub fn keep_one(
     alloc: Global,
     mut handed: Vec<Box<dyn Nemesis + Send>>,

@@ -161,6 +161,7 @@ fn calls_of(path: &Path) -> Tag
     ensures tag { result.0 ≡ bodies.call_tag path.now }
     ensures path { IsPath path.now }
 {
+    // A path has 1 to 4 numbers.
     let _depth = path.depth();
     call_tag(path)
 }

@@ -1,4 +1,4 @@
-//! Bodies are sent as records.
+//! Bodies are sent as records. A record that is sent is in no order yet, so what is live is as before; no clause says so.
 ghost use Rattle.std.specs.Prelude.{◌≡◌, ◌≤◌, length, IsTrue, IfOk, OnOk, OnErr};
 ghost use Rattle.std.specs.List.{list_all};
 ghost use Rattle.boki_model.specs.Plans.{is_user_tag};
@@ -59,8 +59,8 @@ pub fn send_body(
     book.send(engine, Record { tags, cond, bytes })
 }
 
-/// Sends a user's bytes, at most 4,092, with user tags, under a condition or without one. It answers where the record stands. After
-/// `Memory` the book is as before.
+/// Sends a user's bytes, at most 4,092, with any number of user tags, also none, under a condition or without one. It answers where
+/// the record stands. After `Memory` the book is as before.
 pub fn send_user(
     alloc: Global,
     book: &mut Book,
