@@ -1,0 +1,3 @@
+pub mod Names
+pub mod TxnStates
+pub mod Walks
