@@ -12,12 +12,12 @@ use Rattle.call_base.specs.declared.status.Status.TheVariants.{Done}
 use Rattle.call_base.specs.Due.{due}
 use Rattle.judge_agrees.specs.Counts.{HaveAtMost}
 use Rattle.judge_agrees.specs.Laws.{text_with, IsWithinTextLimits}
-use Rattle.judge_runs.specs.Laws.{AddedGiveTexts}
-use Rattle.judge_call.specs.Judged.{judged_due}
+use Rattle.judge_agrees.specs.Runs.{AddedGiveTexts}
+use Rattle.judge_agrees.specs.Judged.{judge_due}
 
 -- the text that is made of the plan's head and the report's turns is judged to this report
 abbrev pub IsJudgedTo : Plan → Report → Type 0
-IsJudgedTo plan r = judged_due (text_with plan r.turns) ≡ due Done (report_text plan.program.functions r)
+IsJudgedTo plan r = judge_due (text_with plan r.turns) ≡ due Done (report_text plan.program.functions r)
 
 -- So it is for the report of a plan that a text spells, run with any nemeses: where the text of the turns is within the limits
 -- of one, its counts of operations too, and the texts that the nemeses gave are UTF-8.

@@ -1,4 +1,3 @@
-pub mod Judged
 pub mod Laws
 pub mod Turns
 pub mod Words

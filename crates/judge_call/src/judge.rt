@@ -3,7 +3,7 @@
 ghost use Rattle.std.specs.Prelude.{◌≡◌, ◌≢◌, [], Some, true, false, map, string_bytes, IfSome};
 ghost use Rattle.lb_base.specs.Devices.{CountRose};
 ghost use Rattle.call_base.specs.Due.{Meets, Wrote, usage};
-ghost use Rattle.judge_call.specs.Judged.{judged_due};
+ghost use Rattle.judge_agrees.specs.Judged.{judge_due};
 ghost use Rattle.judge_call.specs.Words.{is_judge};
 
 use crate::turns::judged_text;
@@ -15,7 +15,7 @@ use std::alloc::Global;
 
 /// Writes the report of the turns that a text spells, or why there is none.
 fn judge_text<K: Sink>(alloc: Global, text: &[u8], sink: &mut K) -> Status
-    ensures meets { Meets result (judged_due text.now) (K.held sink.old) (K.held sink.new) }
+    ensures meets { Meets result (judge_due text.now) (K.held sink.old) (K.held sink.new) }
     ensures wrote { Wrote result (K.held sink.old) (K.held sink.new) }
     ensures other { (result ≢ Status.ReadFault) × (result ≢ Status.Usage) }
     ensures write { result ≡ Status.WriteFault → CountRose (K.faults sink.old) (K.faults sink.new) }
@@ -31,7 +31,7 @@ fn judge_text<K: Sink>(alloc: Global, text: &[u8], sink: &mut K) -> Status
 pub fn judge_source<S: Source, K: Sink>(alloc: Global, source: &mut S, sink: &mut K) -> Status
     // What is due on the text that the source gives.
     ensures judge { IfSome (S.left source.old) (λ text.
-        Meets result (judged_due text) (K.held sink.old) (K.held sink.new)) }
+        Meets result (judge_due text) (K.held sink.old) (K.held sink.new)) }
     ensures other { result ≢ Status.Usage }
     // What is written under each status, also where the source doesn't tell what it gives.
     ensures wrote { Wrote result (K.held sink.old) (K.held sink.new) }
@@ -71,7 +71,7 @@ pub fn judge_top<S: Source, K: Sink>(
     // The word `judge`: what is due on the text that the source gives, likewise.
     ensures judge { is_judge (map string_bytes words.now) ≡ true →
         (result ≢ Status.Usage) × IfSome (S.left source.old) (λ text.
-        Meets result (judged_due text) (K.held sink.old) (K.held sink.new)) }
+        Meets result (judge_due text) (K.held sink.old) (K.held sink.new)) }
     // What is written under each status, also where the source doesn't tell what it gives.
     ensures wrote { is_judge (map string_bytes words.now) ≡ true →
         Wrote result (K.held sink.old) (K.held sink.new) }

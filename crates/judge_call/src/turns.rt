@@ -4,7 +4,7 @@ ghost use Rattle.std.specs.Prelude.{◌≡◌, ◌<◌, ◌^◌, length, IfOk, I
 ghost use Rattle.line_text.specs.Faults.{Gives};
 ghost use Rattle.ideal_run.specs.Judged.{IsDone};
 ghost use Rattle.ideal_run.specs.Turned.{HasRequest};
-ghost use Rattle.judge_agrees.specs.Judged.{judge_due, judge_turns};
+ghost use Rattle.judge_agrees.specs.Judged.{judged_text as judged_of, judge_turns};
 ghost use Rattle.judge_call.specs.Turns.{AreDone, HaveRequests, StopsAt, TurnStops, CanBeDone, Reports};
 
 use boki_types::{Kind, Program, Report, Turn, TurnText};
@@ -65,7 +65,7 @@ fn report_text_of(alloc: Global, text: &TurnText) -> Result<Words, PlanFault>
 /// The text of the report behind the turns that a text spells. It is refused where it spells none, and at the first turn that
 /// can't be done.
 pub fn judged_text(alloc: Global, text: &[u8]) -> Result<Words, PlanFault>
-    ensures { Gives result (judge_due text.now) }
+    ensures { Gives result (judged_of text.now) }
 {
     let turns = parse_turns(alloc, text)?;
     report_text_of(alloc, &turns)
