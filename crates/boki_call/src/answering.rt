@@ -9,6 +9,7 @@ ghost use Rattle.boki_call.specs.Answers.{Answers, is_read};
 use call_base::{Status, write_usage};
 use check_call::{check_source, write_transfers};
 use command_line::{Request, request_of};
+use judge_call::judge_source;
 use lb_base::{Sink, Source};
 use nemesis::Nemesis;
 use small_run::run_source;
@@ -35,6 +36,7 @@ fn answer<S: Source, K: Sink>(
             with: None,
             json: false,
         } => run_source(alloc, source, sink),
+        Request::Judge => judge_source(alloc, source, sink),
         Request::Check => check_source(alloc, source, sink),
         Request::Make {
             transfers,
@@ -48,9 +50,9 @@ fn answer<S: Source, K: Sink>(
 /// Answers the words of the program, which stand without its name.
 ///
 /// They are read once, and the status and the text are those of their command's own call: of
-/// [`run_top`](small_run::run_top), [`check_top`](check_call::check_top) or [`make_top`](check_call::make_top). For every other
-/// word, and for a command or an option that isn't built yet, the usage line is written and the source is left alone. No command
-/// that is built takes nemeses, so all are dropped unused.
+/// [`run_top`](small_run::run_top), [`judge_top`](judge_call::judge_top), [`check_top`](check_call::check_top) or
+/// [`make_top`](check_call::make_top). For every other word, and for a command or an option that isn't built yet, the usage line
+/// is written and the source is left alone. No command that is built takes nemeses, so all are dropped unused.
 pub fn call<R, S: Source, K: Sink>(
     _rt: &R,
     alloc: Global,
