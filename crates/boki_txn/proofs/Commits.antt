@@ -1,8 +1,8 @@
 -- Whether a commit succeeds, by the names with the commits that wrote them.
-use Rattle.std.proofs.Common.{◌≡◌, ◌⊎◌, inl, inr, ℕ, suc, ◌<◌, ◌≤◌, Bool, true, false, not, cond, eqb, ltb, ◌&&◌, ◌||◌, List, [], ◌∷◌, ◌++◌, map, Option, Some, None, option_map, unwrap_or, bytes_eq, refl, sym, ap, subst, ◌∙◌, arith}
+use Rattle.std.proofs.Common.{◌≡◌, ℕ, suc, ◌<◌, ◌≤◌, Bool, true, false, not, cond, eqb, ltb, ◌&&◌, ◌||◌, List, [], ◌∷◌, ◌++◌, Option, Some, None, option_map, unwrap_or, bytes_eq, refl, sym, ap, ◌∙◌, arith}
 use Rattle.std.specs.Option.{option_map_or}
 use Rattle.std.specs.List.{list_any}
-use Rattle.std.proofs.lemmas.Bool.{le-ltb, ne_eqb, eq-eqb, eqb-true, ltb-false}
+use Rattle.std.proofs.lemmas.Bool.{le-ltb, ne_eqb, eq-eqb, ltb-false}
 use Rattle.lb_base.specs.declared.value.Value.{Value}
 use Rattle.lb_base.specs.declared.value.Value.TheVariants.{Nothing}
 use Rattle.boki_types.specs.declared.body.Body.{Body}
@@ -10,7 +10,7 @@ use Rattle.boki_types.specs.declared.body.Body.TheVariants as b
 use Rattle.boki_model.specs.Live.{Live}
 use Rattle.boki_model.specs.LogLaws.{FallBelow}
 use Rattle.boki_model.specs.Maps.{get, put, has}
-use Rattle.boki_model.specs.Folds.{Commit, written_names, intersects, succeeds, add_commit, commits, put_all, store_values, values_of_names}
+use Rattle.boki_model.specs.Folds.{Commit, written_names, intersects, succeeds, add_commit, commits, put_all, store_values}
 use Rattle.exactly_once.proofs.Log.MapChanges.{get-put}
 use Rattle.boki_txn.specs.Names.{StoredNames, stored_name, put_writes, names_behind, value_of, is_dirty, may_commit, is_good, changed_by}
 use Rattle.boki_txn.specs.declared.stored.StoredName.{StoredName}

@@ -1,9 +1,9 @@
 -- The store names, by a walk over the commits from the oldest on.
-use Rattle.std.proofs.Common.{◌≡◌, ℕ, zero, suc, ◌+◌, ◌-◌, ◌<◌, ◌≤◌, min, Bool, true, false, cond, List, [], ◌∷◌, length, drop, reverse, slice_index, get_or, Option, Some, None, option_map, refl, sym, ap, ◌∙◌, arith}
+use Rattle.std.proofs.Common.{◌≡◌, ℕ, zero, suc, ◌+◌, ◌-◌, ◌<◌, ◌≤◌, min, List, [], ◌∷◌, length, drop, reverse, slice_index, get_or, Some, option_map, sym, ap, ◌∙◌, arith}
 use Rattle.std.proofs.lemmas.List.{drop_more, drop_all, length-reverse}
 use Rattle.std.proofs.lemmas.Option.{get_or_from_slice_get}
 use Rattle.boki_types.specs.declared.body.Body.{Body}
-use Rattle.boki_model.specs.Live.{Live, count, upto, live}
+use Rattle.boki_model.specs.Live.{Live, count, upto}
 use Rattle.boki_model.specs.Reads.{tagged_seqnums, nth}
 use Rattle.boki_model.specs.Order.{order}
 use Rattle.boki_model.specs.LogLaws.{FallBelow}
@@ -23,7 +23,7 @@ use Rattle.book_api.specs.Books.{BookState, position}
 use Rattle.step_log.specs.Sound.{bodies, live_bodies, view, Sound}
 use Rattle.step_log.proofs.Calls.{own_view}
 use Rattle.fold_cache.specs.Bodies.{body_at}
-use Rattle.fold_cache.specs.Kept.{KeptState, kept_state, state_at}
+use Rattle.fold_cache.specs.Kept.{KeptState, state_at}
 use Rattle.fold_cache.proofs.Kept.{of_state_at}
 use Rattle.fold_cache.proofs.Found.{nth_there, among_upto, below_among, said_there, view_falls}
 use Rattle.boki_txn.specs.Names.{StoredNames, names_behind, changed_by}

@@ -1,5 +1,5 @@
 -- The states that a cache keeps.
-use Rattle.std.proofs.Common.{◌≡◌, ℕ, ◌-◌, ◌<◌, ◌≤◌, cond, nat_eq, List, [], ◌∷◌, ◌++◌, length, reverse, slice_index, get_or, Option, Some, None, option_map, Result, Ok, Err, OnOk, OnErr, refl, sym, ap, subst, ◌∙◌, arith}
+use Rattle.std.proofs.Common.{◌≡◌, ℕ, ◌-◌, ◌<◌, ◌≤◌, cond, nat_eq, List, [], ◌∷◌, ◌++◌, length, reverse, slice_index, get_or, Some, None, option_map, Result, Ok, Err, OnOk, OnErr, refl, sym, ap, subst, ◌∙◌, arith}
 use Rattle.std.specs.Map.{lookup}
 use Rattle.std.proofs.lemmas.Bool.{le-leb}
 use Rattle.std.proofs.lemmas.List.{length-reverse}
@@ -8,10 +8,9 @@ use Rattle.lru.specs.LruCache.{LruCache, IsValid}
 use Rattle.aux_cache.specs.Entries.{with_entry}
 use Rattle.fold_cache.specs.Kept.{KeptState, with_state}
 use Rattle.fold_cache.proofs.Kept.{looked_up, set_is_kept}
-use Rattle.boki_txn.specs.declared.walking.Start.{Start}
 use Rattle.boki_txn.specs.Names.{StoredNames}
 use Rattle.boki_txn.specs.TxnStates.{with_names, first_of}
-use Rattle.boki_txn.specs.Walks.{kept_names, IsStart, AreSmall}
+use Rattle.boki_txn.specs.Walks.{kept_names, IsStart, IsBounded}
 
 pub found_start : (cache : LruCache ℕ StoredNames) (seqs : List ℕ) (count : ℕ) (names : StoredNames) → 0 < count → count ≤ length seqs
     → lookup (nat_eq (slice_index seqs (count - 1))) cache.entries ≡ Some names → IsStart (kept_names cache) seqs (record { count = count; names = names })
@@ -28,17 +27,17 @@ no_start states seqs = record {
   some = λ few. absurd (let f : ⊥ = omega arith in f);
 }
 
-pub set_result : {A E : Type 0} (result : Result A E) (old new : LruCache ℕ StoredNames) (seq : ℕ) (state : StoredNames) → AreSmall old → IsValid nat_eq old → length state ≤ 4096
+pub set_result : {A E : Type 0} (result : Result A E) (old new : LruCache ℕ StoredNames) (seq : ℕ) (state : StoredNames) → IsBounded old → IsValid nat_eq old → length state ≤ 4096
     → OnOk result (new ≡ with_entry seq state old) → OnOk result (kept_names new ≡ with_names seq state (kept_names old))
 set_result (Ok a) old new seq state small valid few made =
     set_is_kept (λ (names : StoredNames). names) seq state old new valid small made
     ∙ sym (ap (λ t. cond t (with_state seq state (kept_names old)) (kept_names old)) (le-leb (length state) 4096 few))
 set_result (Err e) old new seq state small valid few made = tt
 
-pub small_result : {A E : Type 0} (result : Result A E) (old new : LruCache ℕ StoredNames) (seq : ℕ) (state : StoredNames) → AreSmall old
-    → OnOk result (new ≡ with_entry seq state old) → OnErr result (new ≡ old) → AreSmall new
-small_result (Ok a) old new seq state small made same = subst AreSmall (sym made) small
-small_result (Err e) old new seq state small made same = subst AreSmall (sym same) small
+pub small_result : {A E : Type 0} (result : Result A E) (old new : LruCache ℕ StoredNames) (seq : ℕ) (state : StoredNames) → IsBounded old
+    → OnOk result (new ≡ with_entry seq state old) → OnErr result (new ≡ old) → IsBounded new
+small_result (Ok a) old new seq state small made same = subst IsBounded (sym made) small
+small_result (Err e) old new seq state small made same = subst IsBounded (sym same) small
 
 -- the first of a list is the last of it reversed
 last_of : (s : ℕ) (xs : List ℕ) → get_or (xs ++ s ∷ []) (length xs) 0 ≡ s

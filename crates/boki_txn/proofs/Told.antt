@@ -1,8 +1,8 @@
 -- What is told, and what is kept then.
-use Rattle.std.proofs.Common.{◌≡◌, ◌⊎◌, inl, inr, ℕ, zero, suc, ◌-◌, ◌<◌, ◌≤◌, min, Bool, true, false, cond, eqb, leb, ltb, ◌&&◌, ◌||◌, List, [], ◌∷◌, ◌++◌, length, map, Option, Some, None, option_and_then, unwrap_or, Result, Ok, Err, OnErr, IfOk, refl, sym, ap, subst, ◌∙◌, arith}
+use Rattle.std.proofs.Common.{◌≡◌, inl, inr, ℕ, suc, ◌-◌, ◌<◌, ◌≤◌, min, Bool, true, false, cond, eqb, leb, ltb, ◌&&◌, ◌||◌, List, [], ◌∷◌, ◌++◌, length, map, Option, Some, None, unwrap_or, Result, Ok, Err, OnErr, IfOk, refl, sym, ap, subst, ◌∙◌, arith}
 use Rattle.std.specs.Option.{option_map_or}
 use Rattle.std.specs.List.{AllByRecursion, list_any}
-use Rattle.std.proofs.lemmas.Bool.{le-leb, ne_eqb, eq-eqb, eqb-true, ltb-true, ltb-false}
+use Rattle.std.proofs.lemmas.Bool.{le-leb, eq-eqb, eqb-true, ltb-true, ltb-false}
 use Rattle.lru.specs.LruCache.{LruCache}
 use Rattle.lb_base.specs.declared.value.Value.{Value}
 use Rattle.lb_base.specs.declared.value.Value.TheVariants.{Nothing}
@@ -17,7 +17,7 @@ use Rattle.boki_model.specs.Folds.{Commit, add_commit, commits, store_values, va
 use Rattle.boki_model.proofs.Logs.{live_falls, upto_all, upto_here, upto_skip}
 use Rattle.boki_machine.specs.Step.{is_committed}
 use Rattle.exactly_once.specs.FurtherLaws.Words.{IsAmong}
-use Rattle.log_folds.specs.Bounds.{record_at, seen_at}
+use Rattle.log_folds.specs.Bounds.{record_at}
 use Rattle.log_folds.specs.ByTag.{with_tag}
 use Rattle.log_folds.specs.Own.{commit_tag}
 use Rattle.log_folds.proofs.ByTag.{are_oldest, of_tag, of_tag_upto}
@@ -30,7 +30,7 @@ use Rattle.fold_cache.specs.Kept.{KeptState, kept_state, with_state}
 use Rattle.fold_cache.proofs.Kept.{all_with_state}
 use Rattle.fold_cache.proofs.Found.{among_upto, below_among, is_recorded, said_there, view_falls}
 use Rattle.boki_txn.specs.Names.{StoredNames, names_behind, value_of, is_good, changed_by}
-use Rattle.boki_txn.specs.TxnStates.{is_commit, commits_at, names_at, IsTxnFold, AreTxnFolds, with_names, first_of, commit_below, with_names_below, value_before, IsValueTold, AreValuesTold, IsCommitTold}
+use Rattle.boki_txn.specs.TxnStates.{is_commit, commits_at, names_at, IsTxnFold, AreTxnFolds, with_names, first_of, commit_below, with_names_below, IsValueTold, AreValuesTold, IsCommitTold}
 use Rattle.boki_txn.specs.Walks.{kept_names}
 use Rattle.boki_txn.proofs.Commits.{commits_fall, changed_one, value_is, added_here, added_apart}
 use Rattle.boki_txn.proofs.Folding.{seen, own, own_seen, falls, upto_of_all}

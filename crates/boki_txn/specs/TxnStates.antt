@@ -1,5 +1,5 @@
 -- The store names behind a record, each with the commit that wrote it, and what a cache keeps of them.
-use Rattle.std.specs.Prelude.{◌≡◌, ℕ, ◌-◌, nat_le, nat_lt, ◌&&◌, ◌||◌, not, Bool, true, false, if◌then◌else◌, List, [], ◌∷◌, ◌++◌, length, Option, Some, None, unwrap_or}
+use Rattle.std.specs.Prelude.{◌≡◌, ℕ, ◌-◌, nat_le, Bool, true, false, if◌then◌else◌, List, [], ◌∷◌, ◌++◌, length, Option, Some, None, unwrap_or}
 use Rattle.std.specs.Option.{option_map_or}
 use Rattle.std.specs.List.{AllByRecursion}
 use Rattle.lb_base.specs.declared.value.Value.{Value}
@@ -8,8 +8,8 @@ use Rattle.boki_types.specs.declared.body.Body.{Body}
 use Rattle.boki_types.specs.declared.body.Body.TheVariants as body
 use Rattle.boki_model.specs.Live.{LogRecord, Live, live, upto, is_live}
 use Rattle.boki_model.specs.Reads.{tagged_seqnums}
-use Rattle.boki_model.specs.Maps.{get, put}
-use Rattle.boki_model.specs.Folds.{Commit, commits, store_values, values_of_names}
+use Rattle.boki_model.specs.Maps.{get}
+use Rattle.boki_model.specs.Folds.{commits, store_values, values_of_names}
 use Rattle.boki_machine.specs.Step.{records_below, is_committed}
 use Rattle.log_folds.specs.Bounds.{record_at}
 use Rattle.log_folds.specs.Own.{commit_tag}

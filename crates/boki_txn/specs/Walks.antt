@@ -22,6 +22,6 @@ pub record IsStart (states : List (KeptState StoredNames)) (seqs : List ℕ) (st
   pub none : start.count ≡ 0 → start.names ≡ []
   pub some : 0 < start.count → state_at (slice_index seqs (start.count - 1)) states ≡ Some start.names
 
--- what a cache is to keep: names that are not too many
-abbrev pub AreSmall : LruCache ℕ StoredNames → Type 0
-AreSmall cache = cache.cap ≡ 64
+-- a cache has room for 64 states
+abbrev pub IsBounded : LruCache ℕ StoredNames → Type 0
+IsBounded cache = cache.cap ≡ 64

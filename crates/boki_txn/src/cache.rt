@@ -30,13 +30,13 @@ impl Model for TxnCache {
     ghost use Rattle.std.specs.Prelude.{List};
     ghost use Rattle.fold_cache.specs.Kept.{KeptState};
     ghost use Rattle.boki_txn.specs.Names.{StoredNames};
-    ghost use Rattle.boki_txn.specs.Walks.{kept_names, AreSmall};
+    ghost use Rattle.boki_txn.specs.Walks.{kept_names, IsBounded};
 
     ghost Value = { List (KeptState StoredNames) };
 
     ghost view = { λ c. kept_names c.entries };
 
-    ghost invariant = { λ c. AreSmall c.entries };
+    ghost invariant = { λ c. IsBounded c.entries };
 }
 
 impl TxnCache {

@@ -8,7 +8,7 @@ ghost use Rattle.book_api.specs.Books.{HasEngine};
 ghost use Rattle.step_log.specs.Sound.{Sound, view, live_bodies};
 ghost use Rattle.log_folds.specs.Own.{commit_tag as tag_of_commits};
 ghost use Rattle.boki_txn.specs.TxnStates.{first_of, commits_at, AreTxnFolds, with_names, AreValuesTold, IsValueTold, IsCommitTold};
-ghost use Rattle.boki_txn.specs.Walks.{kept_names, AreSmall};
+ghost use Rattle.boki_txn.specs.Walks.{kept_names, IsBounded};
 
 use crate::stored::Names;
 use crate::walking::{change, commit_tag, names_upto};
@@ -32,11 +32,11 @@ pub(crate) fn told_values(
 ) -> Result<List<Value>, Memory>
     requires engine { HasEngine engine book.now }
     requires sound { Sound book.now }
-    requires small { AreSmall entries.old }
+    requires small { IsBounded entries.old }
     requires folds { AreTxnFolds (kept_names entries.old) (live_bodies book.now) }
     ensures ok { IfOk result (AreValuesTold names.now seq.0 (view book.now engine) (kept_names entries.old) (kept_names entries.new)) }
     ensures err { OnErr result (kept_names entries.new ≡ kept_names entries.old) }
-    ensures small { AreSmall entries.new }
+    ensures small { IsBounded entries.new }
 {
     let below = seqnum_below(seq);
     let state = names_upto(alloc, entries, book, engine, below)?;
@@ -56,11 +56,11 @@ pub(crate) fn told_value(
 ) -> Result<Value, Memory>
     requires engine { HasEngine engine book.now }
     requires sound { Sound book.now }
-    requires small { AreSmall entries.old }
+    requires small { IsBounded entries.old }
     requires folds { AreTxnFolds (kept_names entries.old) (live_bodies book.now) }
     ensures ok { IfOk result (IsValueTold name.now seq.0 (view book.now engine) (kept_names entries.old) (kept_names entries.new)) }
     ensures err { OnErr result (kept_names entries.new ≡ kept_names entries.old) }
-    ensures small { AreSmall entries.new }
+    ensures small { IsBounded entries.new }
 {
     let below = seqnum_below(seq);
     let state = names_upto(alloc, entries, book, engine, below)?;
@@ -80,11 +80,11 @@ pub(crate) fn told_commit(
     requires engine { HasEngine engine book.now }
     requires sound { Sound book.now }
     requires commit { commits_at seq.0 (view book.now engine) ≡ true }
-    requires small { AreSmall entries.old }
+    requires small { IsBounded entries.old }
     requires folds { AreTxnFolds (kept_names entries.old) (live_bodies book.now) }
     ensures ok { IfOk result (IsCommitTold seq.0 (view book.now engine) (kept_names entries.old) (kept_names entries.new)) }
     ensures err { OnErr result (kept_names entries.new ≡ kept_names entries.old) }
-    ensures small { AreSmall entries.new }
+    ensures small { IsBounded entries.new }
 {
     let below = seqnum_below(seq);
     let mut state = names_upto(alloc, entries, book, engine, below)?;
@@ -109,11 +109,11 @@ fn keep_below(
     state: Names,
 ) -> Result<(), Memory>
     requires engine { HasEngine engine book.now }
-    requires small { AreSmall entries.old }
+    requires small { IsBounded entries.old }
     ensures ok { OnOk result (kept_names entries.new ≡ option_map_or (λ s. with_names s state (kept_names entries.old))
         (first_of (tagged_seqnums tag_of_commits (seen_upto below (view book.now engine)))) (kept_names entries.old)) }
     ensures err { OnErr result (entries.new ≡ entries.old) }
-    ensures small { AreSmall entries.new }
+    ensures small { IsBounded entries.new }
 {
     match newest_commit(book, engine, below) {
         Some(last) => keep(entries, last, state),
@@ -140,10 +140,10 @@ fn newest_commit(book: &Book, engine: u32, below: u64) -> Option<Seqnum>
 // Keeps a state behind a record, if it has at most 4,096 names.
 #[tactic(auto, using(crate::proofs::Kept::set_result, crate::proofs::Kept::small_result))]
 fn keep(entries: &mut Cache<Names>, seq: Seqnum, state: Names) -> Result<(), Memory>
-    requires { AreSmall entries.old }
+    requires { IsBounded entries.old }
     ensures ok { OnOk result (kept_names entries.new ≡ with_names seq.0 state (kept_names entries.old)) }
     ensures err { OnErr result (entries.new ≡ entries.old) }
-    ensures small { AreSmall entries.new }
+    ensures small { IsBounded entries.new }
 {
     if state.len() > MOST_NAMES {
         drop(state);

@@ -1,4 +1,4 @@
-use Rattle.std.proofs.Common.{◌≡◌, ◌∙◌, ap, reverse}
+use Rattle.std.proofs.Common.{◌∙◌, ap, reverse}
 use Rattle.boki_model.specs.Live.{upto}
 use Rattle.boki_model.specs.Reads.{tagged_seqnums}
 use Rattle.step_log.specs.Sound.{view}

@@ -1,4 +1,4 @@
-use Rattle.std.proofs.Common.{◌≡◌, ◌∙◌, Some, None, Option, false, ltb, sym, ap, rules}
+use Rattle.std.proofs.Common.{◌≡◌, ◌∙◌, Some, None, false, ltb, sym, ap, rules}
 use Rattle.std.specs.Option.{option_copied, option_map_or}
 use Rattle.boki_model.specs.Maps.{get}
 use Rattle.boki_txn.specs.declared.stored.StoredName.{StoredName}
