@@ -9,7 +9,7 @@ mod progress;
 mod state;
 
 pub use bodies::body_of;
-pub use copies::{copy_names, copy_values, copy_writes};
+pub use copies::{copy_names, copy_outcome, copy_values, copy_writes};
 pub use lines::{child, located, send_line};
 pub use progress::Progress;
 pub use state::AttemptState;
