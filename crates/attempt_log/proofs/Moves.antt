@@ -25,14 +25,10 @@ use Rattle.step_log.specs.Sound.{IsBodySent}
 use Rattle.attempt_state.specs.declared.progress.Progress.{Progress}
 use Rattle.attempt_state.specs.Progresses.{progress_of, begin_of}
 use Rattle.attempt_state.specs.Attempts.{AttemptStandsFor}
+use Rattle.attempt_state.specs.Deciding.{writes_freely}
 use Rattle.attempt_state.specs.Sending.{line_of_ask}
 use Rattle.attempt_log.specs.Sent.{waiting_progress, asked_body}
 use Rattle.attempt_log.specs.Moves.{IsAppended, asked_move, attempt_state, AskedAreMoves, InitsAreMoves}
-
--- a write is free in mode W, unless it is late
-abbrev pub is_free_write : Mode → Bool → Bool
-is_free_write W false = true
-is_free_write _ _ = false
 
 module _ (setup : Setup) (fs : List Function) (t : Attempt) (store : Store) (view : List (Live Body)) (at : Sent) where
   pub end_sent : (outcome : Outcome) → script_step setup fs t store view at (Some (k.Done outcome)) ≡ asked_move fs t store at None (k.Done outcome)
@@ -48,7 +44,7 @@ module _ (setup : Setup) (fs : List Function) (t : Attempt) (store : Store) (vie
   group_sent keys W isnt = refl
   group_sent keys T isnt = refl
 
-  pub write_logged : (key : List ℕ) (v : Value) (mode : Mode) (late : Bool) → is_free_write mode late ≡ false
+  pub write_logged : (key : List ℕ) (v : Value) (mode : Mode) (late : Bool) → writes_freely mode late ≡ false
       → writes setup t store at key v mode late ≡ logged_write_step (is_inline setup t v) t.stored t store at key v
   write_logged key v W true isnt = refl
   write_logged key v W false isnt = absurd (let no_way : true ≡ false = isnt in cc)
