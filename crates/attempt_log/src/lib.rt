@@ -2,6 +2,7 @@
 //! in the step log is free.
 #![tactic(auto)]
 
+pub mod laws;
 mod sending;
 
 pub use sending::{send_asked, send_init};

@@ -1,3 +1,4 @@
 pub mod Progresses
 pub mod Attempts
 pub mod Sending
+pub mod Deciding

@@ -26,7 +26,7 @@ pub fn copy_writes(list: &List<(Words, Value)>) -> Result<List<(Words, Value)>, 
 }
 
 /// A copy of an outcome.
-pub(crate) fn copy_outcome(outcome: &Outcome) -> Result<Outcome, Memory>
+pub fn copy_outcome(outcome: &Outcome) -> Result<Outcome, Memory>
     ensures { IfOk result (λ copy. copy ≡ outcome.now) }
 {
     match outcome {

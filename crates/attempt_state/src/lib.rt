@@ -4,12 +4,14 @@
 
 mod bodies;
 mod copies;
+mod deciding;
 mod lines;
 mod progress;
 mod state;
 
 pub use bodies::body_of;
-pub use copies::{copy_names, copy_values, copy_writes};
+pub use copies::{copy_names, copy_outcome, copy_values, copy_writes};
+pub use deciding::is_inline;
 pub use lines::{child, located, send_line};
 pub use progress::Progress;
 pub use state::AttemptState;

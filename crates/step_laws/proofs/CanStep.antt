@@ -1,17 +1,26 @@
 -- Each attempt of a machine that is kept can be stepped.
-use Rattle.std.proofs.Common.{◌≡◌, inl, inr, ℕ, ◌≤◌, ◌^◌, true, List, [], ◌∷◌, length, map, Some, sym, subst, arith}
+use Rattle.std.proofs.Common.{◌≡◌, ◌∙◌, inl, inr, ℕ, suc, ◌≤◌, ◌^◌, true, List, [], ◌∷◌, length, map, Some, sym, ap, subst, arith}
 use Rattle.std.proofs.lemmas.Bool.{and_parts, ltb-true, lt-ltb}
 use Rattle.std.specs.List.{AllByRecursion}
 use Rattle.std.specs.Prelude.{unwrap_or}
 use Rattle.boki_types.specs.declared.operation.Op.TheVariants as o
 use Rattle.boki_types.specs.declared.operation.Ask.{Ask}
 use Rattle.boki_types.specs.declared.operation.Ask.TheVariants as k
+use Rattle.boki_types.specs.declared.plan.Setup.{Setup}
 use Rattle.boki_types.specs.declared.program.Function.{Function}
 use Rattle.boki_model.specs.Bodies.{is_u64, is_name, is_value}
-use Rattle.boki_machine.specs.Attempt.{Attempt, next_index}
+use Rattle.boki_machine.specs.Attempt.{Attempt, next_index, call_of}
 use Rattle.boki_machine.specs.Step.{attempt_ask}
-use Rattle.boki_machine.specs.Machine.{NumberedAttempt}
-use Rattle.exactly_once.specs.FurtherLaws.Words.{IsAmong}
+use Rattle.boki_machine.specs.Machine.{NumberedAttempt, position}
+use Rattle.exactly_once.specs.FurtherLaws.Words.{values_only, IsAmong}
+use Rattle.boki_model.specs.Live.{upto}
+use Rattle.exactly_once.specs.Induction.Invariant.{World, records, InvariantHolds}
+use Rattle.exactly_once.specs.Induction.OpeningHolds.{world_of}
+use Rattle.exactly_once.proofs.Attempts.ActingAttempt.{following, up_to, fit_here}
+use Rattle.exactly_once.proofs.Attempts.FreeSteps.{not_fresh}
+use Rattle.exactly_once.proofs.Invocations.NextRecord.{is_called}
+use Rattle.exactly_once.proofs.Invocations.SamePlace.{called_upto}
+use Rattle.boki_model.proofs.Logs.{upto-upto}
 use Rattle.script_ranges.specs.Asks.{AreFunctions, is_ask}
 use Rattle.script_ranges.specs.Ranged.{AttemptInRange}
 use Rattle.script_ranges.proofs.Scripts.{asks_are_ranged}
@@ -22,7 +31,7 @@ use Rattle.machine_laws.proofs.Ends.{holding_ends_last}
 use Rattle.machine_laws.proofs.Kept.{holding_keeps_writes}
 use Rattle.machine_laws.proofs.Settled.{settled_is_below}
 use Rattle.machine_laws.proofs.Views.{running_see_their_cursor}
-use Rattle.step_laws.specs.CanStep.{CanAsk, AttemptsCanStep}
+use Rattle.step_laws.specs.CanStep.{CanAsk, SeesCall, AttemptsCanStep}
 use Rattle.step_laws.specs.Kept.{IsEngine}
 
 -- what each attempt has, one of them has
@@ -48,6 +57,14 @@ module _ (fs : List Function) (are : AreFunctions fs) (a : Attempt) (range : Att
     children = λ op is. children_have_paths fs a.function a.args a.path a.answers op range.path is;
   }
 
+-- an attempt that has adopted its Init sees the call that began it, below its cursor
+module _ (setup : Setup) (fs : List Function) (w : World) (holds : InvariantHolds setup fs w) (a : Attempt) (among : IsAmong a w.attempts) where
+  sees_call : (place p : ℕ) → a.place ≡ suc place → a.cursor ≤ p → SeesCall a.path (upto p (records w))
+  sees_call place p begun le =
+      let f = not_fresh setup fs (values_only w.store) w.store.fences (length w.log) (records w) w.positions a place begun (following setup fs w holds a among) in
+      let is = is_called setup fs (values_only w.store) (up_to setup fs w holds a) a.path (fit_here setup fs w holds a) f.begun in
+      record { call = is.call; called = called_upto setup fs (values_only w.store) a.path a.cursor is.call (upto p (records w)) (ap (call_of a.path) (upto-upto a.cursor p (records w) le) ∙ is.called) }
+
 pub attempts_can_step : AttemptsCanStep
 attempts_can_step setup fs m a is among =
     let range = among_has (AttemptInRange fs) a m.attempts is.ranged.attempts among in
@@ -60,6 +77,7 @@ attempts_can_step setup fs m a is among =
       sees = record {
         calls = λ call called. calls_fit fs call.function call.args (sees.known a.path call called);
         args = λ call called. sees.args a.path call called;
+        called = λ place running begun. sees_call setup fs (world_of m) is.holds.holds a among place (position m a.engine) begun (running_see_their_cursor setup fs m a is.holds among running);
         ends = λ path. (holding_ends_last setup fs m path is.holds).seen a.engine;
         adopts = λ place x op begun found index asks. adopts_its_ask setup fs m a place x op is.holds among begun found index asks;
       };

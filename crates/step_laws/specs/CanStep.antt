@@ -40,11 +40,18 @@ pub record CanAsk (fs : List Function) (a : Attempt) : Type 0 where
   -- a child that is spawned or joined has a path
   pub children : (op : Op) → attempt_ask fs a ≡ Some (k.Op op) → HasPath a.path op
 
+-- the call of an invocation is among these live records
+pub record SeesCall (path : List ℕ) (view : List (Live Body)) : Type 0 where
+  pub call : Call
+  pub called : call_of path view ≡ Some call
+
 -- What its engine sees, at a position in these live records, is what the attempt goes by.
 pub record CanAdopt (fs : List Function) (store : Store) (view : List (Live Body)) (a : Attempt) : Type 0 where
   -- the call of its invocation is of a function, with as many arguments as that has parameters
   pub calls : (call : Call) → call_of a.path view ≡ Some call → CallFits fs call.function call.args
   pub args : (call : Call) → call_of a.path view ≡ Some call → IsTrue (list_all is_value call.args)
+  -- where it runs and has adopted its Init, its call is there
+  pub called : (place : ℕ) → a.life ≡ Running → a.place ≡ suc place → SeesCall a.path view
   -- an invocation's Finish is its last step record
   pub ends : (path : List ℕ) → EndsLast path view
   -- the record at its place that has the index of its next operation is of that operation, and answers it
