@@ -53,6 +53,13 @@ impl Attempt {
         self.state.progress.life
     }
 
+    /// The engine that it runs on.
+    pub fn engine(&self) -> u32
+        ensures { result ≡ self.now.progress.engine }
+    {
+        self.state.progress.engine
+    }
+
     /// Kills it where it runs, and answers whether it ran. It takes no memory.
     pub fn kill(&mut self) -> bool
         ensures answer { result ≡ is_running self.old.progress.life }

@@ -1,0 +1,11 @@
+//! A cluster: a book, an object store and attempts, to which the events of a plan happen one by one.
+#![tactic(auto)]
+
+mod attempts;
+mod cluster;
+mod ordering;
+mod reading;
+mod sending;
+mod store;
+
+pub use cluster::Cluster;
