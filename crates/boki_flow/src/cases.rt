@@ -84,17 +84,16 @@ fn step_unended(
         program.now.functions parts.old parts.new state.old) }
 {
     let at = state.progress;
+    // An attempt that has adopted its Init sees its call.
+    if at.place > 0 {
+        return step_on(alloc, program, parts, state);
+    }
     let Some(call) = resolve(alloc, &parts.book, at.engine, at.path)? else {
         return Ok(StepLine::WaitsCall);
     };
-    if at.place == 0 {
-        let line = step_init(alloc, program, parts, state, &call);
-        drop(call);
-        line
-    } else {
-        drop(call);
-        step_on(alloc, program, parts, state)
-    }
+    let line = step_init(alloc, program, parts, state, &call);
+    drop(call);
+    line
 }
 
 /// The step of an attempt that has adopted its Init: it adopts the record at its place where that is of its next operation.

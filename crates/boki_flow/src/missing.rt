@@ -11,7 +11,7 @@ use boki_types::{Answered, Ask, Body, GroupAnswer, Miss, Named, Op, Put};
 use hm_write::{put_w, read_group_marked, read_marked, store_write};
 use lb_base::{List, Memory, Seqnum, Value, Words};
 use std::alloc::Global;
-use step_log::{at as record_at, last_finish, resolve};
+use step_log::{at as record_at, last_finish};
 
 /// The store call is made, and what it did is told.
 pub(crate) fn miss_attempt(
@@ -27,10 +27,7 @@ pub(crate) fn miss_attempt(
         drop(outcome);
         return Ok(Miss::Nothing);
     }
-    let Some(call) = resolve(alloc, &parts.book, at.engine, at.path)? else {
-        return Ok(Miss::Nothing);
-    };
-    drop(call);
+    // Before its Init is adopted no store call is made; behind it the attempt sees its call.
     if at.place == 0 {
         Ok(Miss::Nothing)
     } else if is_answered(parts, state) {
