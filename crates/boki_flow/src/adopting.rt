@@ -1,17 +1,27 @@
 //! An attempt adopts the record at its place.
-ghost use Rattle.std.specs.Prelude.{◌≡◌, OnErr, IfOk};
+ghost use Rattle.std.specs.Prelude.{◌≡◌, true, Some, OnErr, IfOk};
+ghost use Rattle.boki_types.specs.declared.operation.Answer.TheVariants as ans;
+ghost use Rattle.boki_types.specs.declared.operation.Ask.TheVariants as k;
+ghost use Rattle.boki_types.specs.declared.operation.Op.TheVariants as o;
+ghost use Rattle.boki_model.specs.Bodies.{child as model_child};
+ghost use Rattle.boki_model.specs.Folds.{queues, front, commits, store_values, values_of_names};
+ghost use Rattle.boki_model.specs.Modes.{result_of};
+ghost use Rattle.book_api.specs.Books.{next_sent};
+ghost use Rattle.boki_queue.specs.QueueStates.{popped_at};
+ghost use Rattle.boki_txn.specs.TxnStates.{commits_at};
+ghost use Rattle.attempt_state.specs.Attempts.{HasScript};
 ghost use Rattle.boki_types.specs.declared.line.StepLine.TheVariants as lines;
-ghost use Rattle.boki_machine.specs.Step.{adopts_operation};
+ghost use Rattle.boki_machine.specs.Step.{records_below, is_committed as committed_at, adopts_answer, adopts_join, adopts_operation, attempt_ask, continue_step};
 ghost use Rattle.boki_machine.specs.Attempt.{moves};
 ghost use Rattle.step_log.specs.Sound.{view};
-ghost use Rattle.boki_flow.specs.Arms.{IsAdopting, CanFlowIf, MovesBy, CutShortBy};
+ghost use Rattle.boki_flow.specs.Arms.{IsAdopting, IsAnswered, IsTaking, IsTakingCommit, CanFlowIf, MovesBy, CutShortBy, begun_move, committed_move};
 
 use crate::caches::{begun_values, is_committed, pop_value};
 use crate::parts::Parts;
 use attempt_store::{adopt_group, adopt_read, pairs_of, take_answer};
 use attempt_state::{AttemptState, Progress, child, copy_outcome};
 use boki_types::{Answer, Body, Program, StepLine};
-use lb_base::{List, Memory, Path, Seqnum, Words};
+use lb_base::{List, Memory, Seqnum, Words};
 use std::alloc::Global;
 use step_log::{at as record_at, last_finish};
 
@@ -21,7 +31,16 @@ pub(crate) fn adopt(
     program: &Program,
     parts: &mut Parts,
     state: &mut AttemptState,
-) -> Result<StepLine, Memory> {
+) -> Result<StepLine, Memory>
+    requires { CanFlowIf (λ setup store a. HasScript a × IsAnswered program.now.functions parts.old a) program.now.functions parts.old state.old }
+    ensures ok { IfOk result (MovesBy (λ setup store a. HasScript a × IsAnswered program.now.functions parts.old a)
+        (λ setup store a. continue_step setup program.now.functions a store (view parts.old.book a.engine) (next_sent parts.old.book a.engine) (attempt_ask program.now.functions a))
+        program.now.functions parts.old parts.new state.old state.new) }
+    ensures err { OnErr result (state.new ≡ state.old) }
+    ensures cut { OnErr result (CutShortBy (λ setup store a. HasScript a × IsAnswered program.now.functions parts.old a)
+        (λ setup store a. continue_step setup program.now.functions a store (view parts.old.book a.engine) (next_sent parts.old.book a.engine) (attempt_ask program.now.functions a))
+        program.now.functions parts.old parts.new state.old) }
+{
     let at = state.progress;
     match record_at(alloc, &parts.book, at.engine, at.path, at.place)? {
         Some((seq, body)) => {
@@ -68,9 +87,8 @@ fn adopt_body(
             let line = StepLine::AdoptSpawn(seq, child(*path, ordinal));
             take_answer(alloc, program, state, changed, Answer::Spawned(ordinal), line)
         }
-        Body::Join { path, ordinal, .. } => {
-            let path = child(*path, *ordinal as u32);
-            adopt_join(alloc, program, parts, state, changed, path)
+        Body::Join { ordinal, .. } => {
+            adopt_join(alloc, program, parts, state, changed, *ordinal as u32)
         }
         Body::Push { queue, .. } => {
             let line = StepLine::AdoptPush(seq, queue.clone()?);
@@ -90,8 +108,18 @@ fn adopt_join(
     parts: &mut Parts,
     state: &mut AttemptState,
     changed: Progress,
-    path: Path,
-) -> Result<StepLine, Memory> {
+    ordinal: u32,
+) -> Result<StepLine, Memory>
+    requires { CanFlowIf (λ setup store a. IsTaking program.now.functions (k.Op (o.Join ordinal)) changed.cursor.0 changed a) program.now.functions parts.old state.old }
+    ensures ok { IfOk result (MovesBy (λ setup store a. IsTaking program.now.functions (k.Op (o.Join ordinal)) changed.cursor.0 changed a)
+        (λ setup store a. adopts_join a store changed.cursor.0 (model_child a.path ordinal) (result_of (model_child a.path ordinal) (view parts.old.book a.engine)))
+        program.now.functions parts.old parts.new state.old state.new) }
+    ensures err { OnErr result (state.new ≡ state.old) }
+    ensures cut { OnErr result (CutShortBy (λ setup store a. IsTaking program.now.functions (k.Op (o.Join ordinal)) changed.cursor.0 changed a)
+        (λ setup store a. adopts_join a store changed.cursor.0 (model_child a.path ordinal) (result_of (model_child a.path ordinal) (view parts.old.book a.engine)))
+        program.now.functions parts.old parts.new state.old) }
+{
+    let path = child(changed.path, ordinal);
     match last_finish(alloc, &parts.book, changed.engine, path)? {
         Some(outcome) => {
             let answer = Answer::Joined(copy_outcome(&outcome)?);
@@ -110,7 +138,16 @@ fn adopt_pop(
     state: &mut AttemptState,
     changed: Progress,
     queue: &Words,
-) -> Result<StepLine, Memory> {
+) -> Result<StepLine, Memory>
+    requires { CanFlowIf (λ setup store a. (popped_at changed.cursor.0 (view parts.old.book a.engine) ≡ Some queue.now) × IsTaking program.now.functions (k.Op (o.Pop queue.now)) changed.cursor.0 changed a) program.now.functions parts.old state.old }
+    ensures ok { IfOk result (MovesBy (λ setup store a. (popped_at changed.cursor.0 (view parts.old.book a.engine) ≡ Some queue.now) × IsTaking program.now.functions (k.Op (o.Pop queue.now)) changed.cursor.0 changed a)
+        (λ setup store a. adopts_answer a store changed.cursor.0 (ans.Value (front queue.now (queues (records_below changed.cursor.0 (view parts.old.book a.engine))))) (lines.AdoptPop changed.cursor queue.now (front queue.now (queues (records_below changed.cursor.0 (view parts.old.book a.engine))))))
+        program.now.functions parts.old parts.new state.old state.new) }
+    ensures err { OnErr result (state.new ≡ state.old) }
+    ensures cut { OnErr result (CutShortBy (λ setup store a. (popped_at changed.cursor.0 (view parts.old.book a.engine) ≡ Some queue.now) × IsTaking program.now.functions (k.Op (o.Pop queue.now)) changed.cursor.0 changed a)
+        (λ setup store a. adopts_answer a store changed.cursor.0 (ans.Value (front queue.now (queues (records_below changed.cursor.0 (view parts.old.book a.engine))))) (lines.AdoptPop changed.cursor queue.now (front queue.now (queues (records_below changed.cursor.0 (view parts.old.book a.engine))))))
+        program.now.functions parts.old parts.new state.old) }
+{
     let seq = changed.cursor;
     let name = queue.clone()?;
     let value = pop_value(parts, changed.engine, queue.as_str(), seq)?;
@@ -127,7 +164,16 @@ fn adopt_begin(
     state: &mut AttemptState,
     changed: Progress,
     names: &List<Words>,
-) -> Result<StepLine, Memory> {
+) -> Result<StepLine, Memory>
+    requires { CanFlowIf (λ setup store a. IsTaking program.now.functions (k.Op (o.Begin names.now)) changed.cursor.0 changed a) program.now.functions parts.old state.old }
+    ensures ok { IfOk result (MovesBy (λ setup store a. IsTaking program.now.functions (k.Op (o.Begin names.now)) changed.cursor.0 changed a)
+        (λ setup store a. begun_move a store changed.cursor.0 names.now (values_of_names names.now (store_values (commits (records_below changed.cursor.0 (view parts.old.book a.engine))))))
+        program.now.functions parts.old parts.new state.old state.new) }
+    ensures err { OnErr result (state.new ≡ state.old) }
+    ensures cut { OnErr result (CutShortBy (λ setup store a. IsTaking program.now.functions (k.Op (o.Begin names.now)) changed.cursor.0 changed a)
+        (λ setup store a. begun_move a store changed.cursor.0 names.now (values_of_names names.now (store_values (commits (records_below changed.cursor.0 (view parts.old.book a.engine))))))
+        program.now.functions parts.old parts.new state.old) }
+{
     let seq = changed.cursor;
     let values = begun_values(parts, changed.engine, seq, names.as_slice())?;
     let pairs = pairs_of(alloc, names.as_slice(), values.as_slice())?;
@@ -146,7 +192,16 @@ fn adopt_commit(
     parts: &mut Parts,
     state: &mut AttemptState,
     changed: Progress,
-) -> Result<StepLine, Memory> {
+) -> Result<StepLine, Memory>
+    requires { CanFlowIf (λ setup store a. (commits_at changed.cursor.0 (view parts.old.book a.engine) ≡ true) × IsTakingCommit program.now.functions changed a) program.now.functions parts.old state.old }
+    ensures ok { IfOk result (MovesBy (λ setup store a. (commits_at changed.cursor.0 (view parts.old.book a.engine) ≡ true) × IsTakingCommit program.now.functions changed a)
+        (λ setup store a. committed_move a store changed.cursor.0 (committed_at changed.cursor.0 (view parts.old.book a.engine)))
+        program.now.functions parts.old parts.new state.old state.new) }
+    ensures err { OnErr result (state.new ≡ state.old) }
+    ensures cut { OnErr result (CutShortBy (λ setup store a. (commits_at changed.cursor.0 (view parts.old.book a.engine) ≡ true) × IsTakingCommit program.now.functions changed a)
+        (λ setup store a. committed_move a store changed.cursor.0 (committed_at changed.cursor.0 (view parts.old.book a.engine)))
+        program.now.functions parts.old parts.new state.old) }
+{
     let seq = changed.cursor;
     let good = is_committed(parts, changed.engine, seq)?;
     let line = StepLine::AdoptCommit(seq, good);

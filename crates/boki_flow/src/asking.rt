@@ -1,28 +1,25 @@
 //! What a script asks, where no record answers it.
-ghost use Rattle.std.specs.Prelude.{◌≡◌, OnErr, IfOk};
-ghost use Rattle.boki_machine.specs.Step.{script_step, attempt_ask};
+ghost use Rattle.std.specs.Prelude.{◌≡◌, true, OnErr, IfOk};
+ghost use Rattle.std.specs.Option.{option_copied};
+ghost use Rattle.boki_types.specs.declared.operation.Ask.TheVariants as k;
+ghost use Rattle.boki_types.specs.declared.operation.Op.TheVariants as o;
+ghost use Rattle.boki_model.specs.Bodies.{child};
+ghost use Rattle.boki_model.specs.Modes.{result_of};
+ghost use Rattle.attempt_log.specs.Moves.{asked_move};
+ghost use Rattle.boki_machine.specs.Step.{script_step, join_step, attempt_ask};
 ghost use Rattle.book_api.specs.Books.{next_sent};
 ghost use Rattle.step_log.specs.Sound.{view};
 ghost use Rattle.attempt_state.specs.Attempts.{HasScript};
-ghost use Rattle.boki_flow.specs.Arms.{CanFlowIf, MovesBy, CutShortBy};
+ghost use Rattle.boki_flow.specs.Arms.{CanFlowIf, MovesBy, CutShortBy, IsAsking, asked_in, here_in};
 
 use crate::parts::Parts;
 use attempt_log::send_asked;
 use attempt_store::{free_read, free_read_group, free_write, store_value};
-use attempt_state::{AttemptState, Progress, child, copy_names};
-use boki_model::limits::MAX_INLINE_BYTES;
+use attempt_state::{AttemptState, child, copy_names, is_inline};
 use boki_types::{Ask, Op, Program, StepLine};
-use lb_base::{Memory, Mode, Value};
+use lb_base::{Memory, Value};
 use std::alloc::Global;
 use step_log::last_finish;
-
-/// Whether its script asks an operation.
-pub(crate) fn asks_operation(state: &AttemptState) -> bool {
-    match &state.frame {
-        Some(frame) => matches!(frame.ask(), Ask::Op(_)),
-        None => false,
-    }
-}
 
 /// The script's next operation, or its end: it is done where it is free, and sent else.
 pub(crate) fn step_script(
@@ -46,7 +43,7 @@ pub(crate) fn step_script(
     let at = state.progress;
     match frame.ask() {
         Ask::Op(Op::Read { key }) => {
-            if is_free_mode(at.mode) {
+            if at.reads_freely() {
                 let key = key.clone()?;
                 free_read(alloc, program, &parts.book, &parts.store, state, key)
             } else {
@@ -54,7 +51,7 @@ pub(crate) fn step_script(
             }
         }
         Ask::Op(Op::ReadGroup { keys }) => {
-            if is_free_mode(at.mode) {
+            if at.reads_freely() {
                 let keys = copy_names(keys)?;
                 free_read_group(alloc, program, &parts.book, &parts.store, state, keys)
             } else {
@@ -62,7 +59,7 @@ pub(crate) fn step_script(
             }
         }
         Ask::Op(Op::Write { key, value }) => {
-            if is_free_write(&at) {
+            if at.writes_freely() {
                 let key = key.clone()?;
                 let value = value.clone()?;
                 free_write(alloc, program, &mut parts.store, state, key, value)
@@ -81,33 +78,6 @@ pub(crate) fn step_script(
     }
 }
 
-/// Whether reads are free.
-fn is_free_mode(mode: Mode) -> bool {
-    matches!(mode, Mode::R)
-}
-
-/// Whether the next write is free.
-pub(crate) fn is_free_write(at: &Progress) -> bool {
-    matches!(at.mode, Mode::W) && !at.late
-}
-
-/// Whether the record of a write holds its value: its engine is new, and the value is short.
-pub(crate) fn is_inline(newer: Option<u32>, engine: u32, value: &Value) -> bool {
-    let is_new = match newer {
-        Some(first) => first <= engine,
-        None => false,
-    };
-    is_new && is_short(value)
-}
-
-/// Whether a value is short enough to stand in the record of a write.
-fn is_short(value: &Value) -> bool {
-    match value {
-        Value::Text(text) => text.len() <= MAX_INLINE_BYTES,
-        _ => true,
-    }
-}
-
 /// A join is sent once the child has a result.
 fn step_join(
     alloc: Global,
@@ -115,7 +85,16 @@ fn step_join(
     parts: &mut Parts,
     state: &mut AttemptState,
     ordinal: u32,
-) -> Result<StepLine, Memory> {
+) -> Result<StepLine, Memory>
+    requires { CanFlowIf (λ setup store a. IsAsking program.now.functions (k.Op (o.Join ordinal)) a) program.now.functions parts.old state.old }
+    ensures ok { IfOk result (MovesBy (λ setup store a. IsAsking program.now.functions (k.Op (o.Join ordinal)) a)
+        (λ setup store a. join_step a store (next_sent parts.old.book a.engine) ordinal (result_of (child a.path ordinal) (view parts.old.book a.engine)))
+        program.now.functions parts.old parts.new state.old state.new) }
+    ensures err { OnErr result (state.new ≡ state.old) }
+    ensures cut { OnErr result (CutShortBy (λ setup store a. IsAsking program.now.functions (k.Op (o.Join ordinal)) a)
+        (λ setup store a. join_step a store (next_sent parts.old.book a.engine) ordinal (result_of (child a.path ordinal) (view parts.old.book a.engine)))
+        program.now.functions parts.old parts.new state.old) }
+{
     let at = state.progress;
     let path = child(at.path, ordinal);
     match last_finish(alloc, &parts.book, at.engine, path)? {
@@ -134,7 +113,16 @@ fn send_next(
     parts: &mut Parts,
     state: &mut AttemptState,
     inline: bool,
-) -> Result<StepLine, Memory> {
+) -> Result<StepLine, Memory>
+    requires { CanFlowIf (λ setup store a. HasScript a) program.now.functions parts.old state.old }
+    ensures ok { IfOk result (MovesBy (λ setup store a. HasScript a)
+        (λ setup store a. asked_move program.now.functions a store (next_sent parts.old.book a.engine) (here_in inline (asked_in state.old.frame)) (asked_in state.old.frame))
+        program.now.functions parts.old parts.new state.old state.new) }
+    ensures err { OnErr result (state.new ≡ state.old) }
+    ensures cut { OnErr result (CutShortBy (λ setup store a. HasScript a)
+        (λ setup store a. asked_move program.now.functions a store (next_sent parts.old.book a.engine) (here_in inline (asked_in state.old.frame)) (asked_in state.old.frame))
+        program.now.functions parts.old parts.new state.old) }
+{
     let Some(frame) = &state.frame else {
         return Ok(StepLine::Idle);
     };
@@ -146,7 +134,9 @@ fn send_next(
 }
 
 /// What is written, where a write is asked.
-fn value_written(ask: &Ask) -> Option<&Value> {
+fn value_written(ask: &Ask) -> Option<&Value>
+    ensures { option_copied result ≡ here_in true ask.now }
+{
     match ask {
         Ask::Op(Op::Write { value, .. }) => Some(value),
         _ => None,

@@ -13,7 +13,7 @@ ghost use Rattle.boki_flow.specs.Arms.{Always, CanFlowIf, MovesBy, CutShortBy};
 ghost use Rattle.boki_flow.specs.Flow.{move_of};
 
 use crate::adopting::adopt;
-use crate::asking::{asks_operation, step_script};
+use crate::asking::step_script;
 use crate::init::step_init;
 use crate::parts::Parts;
 use attempt_state::AttemptState;
@@ -124,7 +124,7 @@ fn step_on(
 /// Whether an operation is asked, and the record at the attempt's place has its index.
 pub(crate) fn is_answered(parts: &Parts, state: &AttemptState) -> bool {
     let at = &state.progress;
-    if !asks_operation(state) {
+    if !state.asks_operation() {
         return false;
     }
     match step_at(&parts.book, at.engine, at.path, at.place) {

@@ -1,13 +1,12 @@
 //! An attempt that has adopted nothing yet.
-ghost use Rattle.std.specs.Prelude.{◌≡◌, zero, Some, OnErr, IfOk};
-ghost use Rattle.boki_types.specs.declared.line.Life.TheVariants.{Running};
+ghost use Rattle.std.specs.Prelude.{◌≡◌, option_map, OnErr, IfOk};
+ghost use Rattle.boki_model.specs.Modes.{mode_after};
 ghost use Rattle.boki_model.specs.Reads.{nth};
 ghost use Rattle.boki_model.specs.Bodies.{step_tag};
-ghost use Rattle.boki_machine.specs.Attempt.{call_of};
-ghost use Rattle.boki_machine.specs.Step.{init_step};
-ghost use Rattle.book_api.specs.Books.{next_sent};
+ghost use Rattle.boki_machine.specs.Step.{records_below, init_step};
+ghost use Rattle.book_api.specs.Books.{HasEngine, next_sent};
 ghost use Rattle.step_log.specs.Sound.{view};
-ghost use Rattle.boki_flow.specs.Arms.{IsCalled, CanFlowIf, MovesBy, CutShortBy};
+ghost use Rattle.boki_flow.specs.Arms.{adopted_init, IsCalled, CanFlowIf, MovesBy, CutShortBy};
 
 use crate::caches::mode_at;
 use crate::parts::Parts;
@@ -52,7 +51,10 @@ fn init_at(
     alloc: Global,
     parts: &Parts,
     state: &AttemptState,
-) -> Result<Option<Seqnum>, Memory> {
+) -> Result<Option<Seqnum>, Memory>
+    requires { HasEngine state.now.progress.engine parts.now.book }
+    ensures { IfOk result (λ found. option_map (λ s. s.0) found ≡ option_map (λ x. x.seq) (nth (step_tag state.now.progress.path) 0 (view parts.now.book state.now.progress.engine))) }
+{
     let at = &state.progress;
     match record_at(alloc, &parts.book, at.engine, at.path, 0)? {
         Some((seq, body)) => {
@@ -71,7 +73,16 @@ fn adopt_init(
     state: &mut AttemptState,
     call: &Call,
     seq: Seqnum,
-) -> Result<StepLine, Memory> {
+) -> Result<StepLine, Memory>
+    requires { CanFlowIf (λ setup store a. IsCalled parts.old call.now a) program.now.functions parts.old state.old }
+    ensures ok { IfOk result (MovesBy (λ setup store a. IsCalled parts.old call.now a)
+        (λ setup store a. adopted_init program.now.functions a store seq.0 call.now (mode_after setup.mode (records_below seq.0 (view parts.old.book a.engine))))
+        program.now.functions parts.old parts.new state.old state.new) }
+    ensures err { OnErr result (state.new ≡ state.old) }
+    ensures cut { OnErr result (CutShortBy (λ setup store a. IsCalled parts.old call.now a)
+        (λ setup store a. adopted_init program.now.functions a store seq.0 call.now (mode_after setup.mode (records_below seq.0 (view parts.old.book a.engine))))
+        program.now.functions parts.old parts.new state.old) }
+{
     let mode = mode_at(parts, state.progress.engine, seq)?;
     state.begin(alloc, program, seq, mode, call)?;
     Ok(StepLine::AdoptInit(seq, mode))

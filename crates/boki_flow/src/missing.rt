@@ -3,10 +3,9 @@ ghost use Rattle.std.specs.Prelude.{◌≡◌, OnErr, IfOk};
 ghost use Rattle.boki_flow.specs.Arms.{Always, CanFlowIf, MissesBy, MissCutShortBy};
 ghost use Rattle.boki_flow.specs.Flow.{missed_of};
 
-use crate::asking::{is_free_write, is_inline};
 use crate::cases::is_answered;
 use crate::parts::Parts;
-use attempt_state::AttemptState;
+use attempt_state::{AttemptState, is_inline};
 use boki_types::{Answered, Ask, Body, GroupAnswer, Miss, Named, Op, Put};
 use hm_write::{put_w, read_group_marked, read_marked, store_write};
 use lb_base::{List, Memory, Seqnum, Value, Words};
@@ -110,7 +109,7 @@ fn miss_write(
     value: &Value,
 ) -> Result<Miss, Memory> {
     let at = &state.progress;
-    if is_free_write(at) {
+    if at.writes_freely() {
         miss_put(parts, state, key, value)
     } else if at.stored || is_inline(parts.newer, at.engine, value) {
         Ok(Miss::Nothing)
