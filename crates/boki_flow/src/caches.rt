@@ -20,7 +20,7 @@ pub(crate) fn mode_at(parts: &mut Parts, engine: u32, seq: Seqnum) -> Result<Mod
         → mode ≡ mode_after setup.mode (records_below seq.0 (view parts.old.book engine))) }
     ensures parts { KeepsParts parts.old parts.new }
 {
-    let switches = &mut parts.switches.as_mut_slice()[(engine - 1) as usize];
+    let switches = &mut parts.switches[(engine - 1) as usize];
     switches.advance(&parts.book, engine)?;
     Ok(switches.mode_at(seq))
 }
@@ -37,7 +37,7 @@ pub(crate) fn pop_value(
     ensures value { IfOk result (λ value. value ≡ front queue.now (queues (records_below seq.0 (view parts.old.book engine)))) }
     ensures parts { KeepsParts parts.old parts.new }
 {
-    let cache = &mut parts.queues.as_mut_slice()[(engine - 1) as usize];
+    let cache = &mut parts.queues[(engine - 1) as usize];
     cache.pop_uncounted(&parts.book, engine, queue, seq)
 }
 
@@ -52,7 +52,7 @@ pub(crate) fn begun_values(
     ensures values { IfOk result (λ values. values ≡ values_of_names names.now (store_values (commits (records_below seq.0 (view parts.old.book engine))))) }
     ensures parts { KeepsParts parts.old parts.new }
 {
-    let cache = &mut parts.txns.as_mut_slice()[(engine - 1) as usize];
+    let cache = &mut parts.txns[(engine - 1) as usize];
     cache.snapshot_all(&parts.book, engine, seq, names)
 }
 
@@ -63,6 +63,6 @@ pub(crate) fn is_committed(parts: &mut Parts, engine: u32, seq: Seqnum) -> Resul
     ensures answer { IfOk result (λ good. good ≡ committed_at seq.0 (view parts.old.book engine)) }
     ensures parts { KeepsParts parts.old parts.new }
 {
-    let cache = &mut parts.txns.as_mut_slice()[(engine - 1) as usize];
+    let cache = &mut parts.txns[(engine - 1) as usize];
     cache.commit_at(&parts.book, engine, seq)
 }

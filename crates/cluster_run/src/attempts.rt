@@ -87,9 +87,9 @@ pub(crate) fn restart(
     let killed = running_on(attempts, engine)?;
     parts.book.restart(engine);
     let index = (engine - 1) as usize;
-    parts.queues.as_mut_slice()[index].clear();
-    parts.txns.as_mut_slice()[index].clear();
-    parts.switches.as_mut_slice()[index].clear();
+    parts.queues[index].clear();
+    parts.txns[index].clear();
+    parts.switches[index].clear();
     kill_on(attempts, engine);
     Ok(Line::Restarted(killed))
 }

@@ -66,7 +66,7 @@ pub(crate) fn switch(
 
 /// The pending switch ends, where it may.
 pub(crate) fn end_switch(parts: &mut Parts, engine: u32) -> Result<Line, Memory> {
-    let view = &mut parts.switches.as_mut_slice()[(engine - 1) as usize];
+    let view = &mut parts.switches[(engine - 1) as usize];
     view.advance(&parts.book, engine)?;
     match view.end(&mut parts.book, engine)? {
         Ending::Sent(sent) => Ok(Line::Sent(sent)),
@@ -77,7 +77,7 @@ pub(crate) fn end_switch(parts: &mut Parts, engine: u32) -> Result<Line, Memory>
 
 /// The engine says below which seqnum it sees no open invocation.
 pub(crate) fn trim(parts: &mut Parts, engine: u32) -> Result<Line, Memory> {
-    let view = &mut parts.switches.as_mut_slice()[(engine - 1) as usize];
+    let view = &mut parts.switches[(engine - 1) as usize];
     view.advance(&parts.book, engine)?;
     let (sent, w) = view.trim(&mut parts.book, engine)?;
     Ok(Line::Trimmed(sent, w))

@@ -8,7 +8,7 @@ use std::alloc::Global;
 
 /// The store's floor is lifted to the one that the engine sees.
 pub(crate) fn sweep(alloc: Global, parts: &mut Parts, engine: u32) -> Result<Line, Memory> {
-    let view = &mut parts.switches.as_mut_slice()[(engine - 1) as usize];
+    let view = &mut parts.switches[(engine - 1) as usize];
     view.advance(&parts.book, engine)?;
     let floor = view.floor();
     let settled = settled_writes(alloc, parts, engine, floor)?;
