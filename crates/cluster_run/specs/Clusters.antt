@@ -67,6 +67,15 @@ pub record StandsForSome (c : ClusterState) : Type 0 where
 abbrev pub IsSoundCluster : ClusterState → Type 0
 IsSoundCluster c = c.marked ≡ false → StandsForSome c
 
+-- Where it isn't marked it stands for a machine of this plan: what a call that takes a plan needs.
+pub record StandsForPlan (plan : Plan) (c : ClusterState) : Type 0 where
+  pub objects : List (List ℕ × Value)
+  pub machine : Machine
+  pub stands : StandsFor plan.setup plan.program.functions objects machine c
+
+abbrev pub IsOfPlan : Plan → ClusterState → Type 0
+IsOfPlan plan c = c.marked ≡ false → StandsForPlan plan c
+
 -- a new cluster of a plan
 pub record IsOpened (plan : Plan) (c : ClusterState) : Type 0 where
   pub unmarked : c.marked ≡ false

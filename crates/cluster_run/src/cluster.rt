@@ -1,3 +1,7 @@
+ghost use Rattle.std.specs.Prelude.{◌≡◌, IsTrue, IfOk, IsErr};
+ghost use Rattle.boki_model.specs.Plans.{is_event, is_plan};
+ghost use Rattle.cluster_run.specs.Clusters.{IsOfPlan, IsOpened, DoesEvent, CatchesAllUp, MarksOnMemory};
+
 use crate::attempts::{kill_attempt, lose_record, miss_attempt, restart, start, step_attempt};
 use crate::ordering::{catch, copy, cut, sync};
 use crate::reading::{aux, next, prev, set_aux, settled, tail};
@@ -13,6 +17,7 @@ use indexmap::IndexMap;
 use lb_base::{List, Memory, Words};
 use obj_store::ObjStore;
 use std::alloc::Global;
+use std::marker::Model;
 use std::thread::Threads;
 
 /// A cluster, by what its plan's head says and what has happened in it.
@@ -30,9 +35,22 @@ pub struct Cluster {
     pub(crate) marked: bool,
 }
 
+impl Model for Cluster {
+    ghost use Rattle.cluster_run.specs.Clusters.{ClusterState, IsSoundCluster};
+
+    ghost Value = { ClusterState };
+
+    ghost view = { λ c. record { setup = c.setup; names = c.names; parts = c.parts; attempts = c.attempts.entries; marked = c.marked } };
+
+    ghost invariant = { λ c. IsSoundCluster (record { setup = c.setup; names = c.names; parts = c.parts; attempts = c.attempts.entries; marked = c.marked }) };
+}
+
 impl Cluster {
     /// A new cluster of a plan, in which nothing has happened.
-    pub fn new(alloc: Global, plan: &Plan) -> Result<Cluster, Memory> {
+    pub fn new(alloc: Global, plan: &Plan) -> Result<Cluster, Memory>
+        requires { IsTrue (is_plan plan.now) }
+        ensures { IfOk result (IsOpened plan.now) }
+    {
         Ok(Cluster {
             alloc,
             setup: plan.setup,
@@ -52,7 +70,13 @@ impl Cluster {
         plan: &Plan,
         event: &Event,
         gate: &G,
-    ) -> Result<Line, Memory> {
+    ) -> Result<Line, Memory>
+        requires valid { IsTrue (is_event plan.now.setup plan.now.program.functions event.now) }
+        requires plan { IsOfPlan plan.now self.old }
+        ensures done { IfOk result (DoesEvent plan.now.setup plan.now.program.functions event.now self.old self.new) }
+        ensures plan { IsOfPlan plan.now self.new }
+        ensures marks { MarksOnMemory self.old self.new result }
+    {
         if self.marked {
             return Err(Memory);
         }
@@ -69,7 +93,10 @@ impl Cluster {
         &mut self,
         rt: &R,
         gate: &G,
-    ) -> Result<u64, Memory> {
+    ) -> Result<u64, Memory>
+        ensures done { IfOk result (CatchesAllUp self.old self.new) }
+        ensures marks { MarksOnMemory self.old self.new result }
+    {
         if self.marked {
             return Err(Memory);
         }
@@ -80,7 +107,9 @@ impl Cluster {
     }
 
     /// The book.
-    pub fn book(&self) -> &Book {
+    pub fn book(&self) -> &Book
+        ensures { result.now ≡ self.now.parts.book }
+    {
         &self.parts.book
     }
 }
