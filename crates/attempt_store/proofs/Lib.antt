@@ -1,3 +1,3 @@
-pub mod Reading
-pub mod Marked
-pub mod Writing
+pub mod ReadMoves
+pub mod MarkerMoves
+pub mod WriteMoves

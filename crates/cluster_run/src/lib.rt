@@ -3,9 +3,12 @@
 
 mod attempts;
 mod cluster;
+mod folds;
 mod ordering;
 mod reading;
+mod report;
 mod sending;
 mod store;
+mod turns;
 
 pub use cluster::Cluster;
