@@ -1,6 +1,12 @@
 //! The store call of an attempt's next step, whose answer is lost.
-ghost use Rattle.std.specs.Prelude.{◌≡◌, OnErr, IfOk};
-ghost use Rattle.boki_flow.specs.Arms.{Always, CanFlowIf, MissesBy, MissCutShortBy};
+ghost use Rattle.std.specs.Prelude.{◌≡◌, suc, List, OnErr, IfOk};
+ghost use Rattle.boki_types.specs.declared.operation.Ask.TheVariants as k;
+ghost use Rattle.boki_types.specs.declared.operation.Op.TheVariants as o;
+ghost use Rattle.boki_types.specs.declared.program.Function.{Function};
+ghost use Rattle.boki_model.specs.Writes.{put_at};
+ghost use Rattle.boki_machine.specs.Step.{attempt_ask, misses_asked, misses_write, misses_put};
+ghost use Rattle.attempt_state.specs.Attempts.{HasScript};
+ghost use Rattle.boki_flow.specs.Arms.{Always, CanFlowIf, IsAnswered, IsAsking, MissesBy, MissCutShortBy};
 ghost use Rattle.boki_flow.specs.Flow.{missed_of};
 
 use crate::cases::is_answered;
@@ -17,7 +23,13 @@ pub(crate) fn miss_attempt(
     alloc: Global,
     parts: &mut Parts,
     state: &AttemptState,
-) -> Result<Miss, Memory> {
+) -> Result<Miss, Memory>
+    requires { (fs : List Function) × CanFlowIf (λ setup store a. Always setup store a) fs parts.old state.now }
+    ensures ok { IfOk result (λ what. (fs : List Function) → MissesBy (λ setup store a. Always setup store a)
+        (λ setup store a. missed_of setup fs store a parts.old) fs parts.old parts.new state.now what) }
+    ensures cut { OnErr result ((fs : List Function) → MissCutShortBy (λ setup store a. Always setup store a)
+        (λ setup store a. missed_of setup fs store a parts.old) fs parts.old parts.new state.now) }
+{
     let at = &state.progress;
     if !at.is_running() {
         return Ok(Miss::Idle);
@@ -39,7 +51,13 @@ pub(crate) fn miss_attempt(
 }
 
 /// The call of a marker that is adopted.
-fn miss_record(alloc: Global, parts: &mut Parts, state: &AttemptState) -> Result<Miss, Memory> {
+fn miss_record(alloc: Global, parts: &mut Parts, state: &AttemptState) -> Result<Miss, Memory>
+    requires { (fs : List Function) × CanFlowIf (λ setup store a. HasScript a × IsAnswered fs parts.old a) fs parts.old state.now }
+    ensures ok { IfOk result (λ what. (fs : List Function) → MissesBy (λ setup store a. HasScript a × IsAnswered fs parts.old a)
+        (λ setup store a. missed_of setup fs store a parts.old) fs parts.old parts.new state.now what) }
+    ensures cut { OnErr result ((fs : List Function) → MissCutShortBy (λ setup store a. HasScript a × IsAnswered fs parts.old a)
+        (λ setup store a. missed_of setup fs store a parts.old) fs parts.old parts.new state.now) }
+{
     let at = &state.progress;
     match record_at(alloc, &parts.book, at.engine, at.path, at.place)? {
         Some((seq, body)) => {
@@ -92,7 +110,13 @@ fn miss_group(
 }
 
 /// The call of a write that is asked.
-fn miss_asked(parts: &mut Parts, state: &AttemptState) -> Result<Miss, Memory> {
+fn miss_asked(parts: &mut Parts, state: &AttemptState) -> Result<Miss, Memory>
+    requires { (fs : List Function) × CanFlowIf (λ setup store a. HasScript a) fs parts.old state.now }
+    ensures ok { IfOk result (λ what. (fs : List Function) → MissesBy (λ setup store a. HasScript a)
+        (λ setup store a. misses_asked setup a store (attempt_ask fs a)) fs parts.old parts.new state.now what) }
+    ensures cut { OnErr result ((fs : List Function) → MissCutShortBy (λ setup store a. HasScript a)
+        (λ setup store a. misses_asked setup a store (attempt_ask fs a)) fs parts.old parts.new state.now) }
+{
     let Some(frame) = &state.frame else {
         return Ok(Miss::Nothing);
     };
@@ -107,7 +131,13 @@ fn miss_write(
     state: &AttemptState,
     key: &Words,
     value: &Value,
-) -> Result<Miss, Memory> {
+) -> Result<Miss, Memory>
+    requires { (fs : List Function) × CanFlowIf (λ setup store a. IsAsking fs (k.Op (o.Write key.now value.now)) a) fs parts.old state.now }
+    ensures ok { IfOk result (λ what. (fs : List Function) → MissesBy (λ setup store a. IsAsking fs (k.Op (o.Write key.now value.now)) a)
+        (λ setup store a. misses_write setup a store key.now value.now a.mode a.late) fs parts.old parts.new state.now what) }
+    ensures cut { OnErr result ((fs : List Function) → MissCutShortBy (λ setup store a. IsAsking fs (k.Op (o.Write key.now value.now)) a)
+        (λ setup store a. misses_write setup a store key.now value.now a.mode a.late) fs parts.old parts.new state.now) }
+{
     let at = &state.progress;
     if at.writes_freely() {
         miss_put(parts, state, key, value)
@@ -126,7 +156,13 @@ fn miss_put(
     state: &AttemptState,
     key: &Words,
     value: &Value,
-) -> Result<Miss, Memory> {
+) -> Result<Miss, Memory>
+    requires { (fs : List Function) × CanFlowIf (λ setup store a. IsAsking fs (k.Op (o.Write key.now value.now)) a) fs parts.old state.now }
+    ensures ok { IfOk result (λ what. (fs : List Function) → MissesBy (λ setup store a. IsAsking fs (k.Op (o.Write key.now value.now)) a)
+        (λ setup store a. misses_put (put_at key.now a.cursor (suc a.free_writes) store) a store key.now value.now) fs parts.old parts.new state.now what) }
+    ensures cut { OnErr result ((fs : List Function) → MissCutShortBy (λ setup store a. IsAsking fs (k.Op (o.Write key.now value.now)) a)
+        (λ setup store a. misses_put (put_at key.now a.cursor (suc a.free_writes) store) a store key.now value.now) fs parts.old parts.new state.now) }
+{
     let at = &state.progress;
     let Some(number) = at.free_writes.checked_add(1) else {
         return Err(Memory);
