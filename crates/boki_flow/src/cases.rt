@@ -1,16 +1,18 @@
 //! The cases of a step, in the order of the step table.
-ghost use Rattle.std.specs.Prelude.{◌≡◌, suc, zero, None, Some, OnErr, IfOk};
+ghost use Rattle.std.specs.Prelude.{◌≡◌, ◌+◌, ◌<◌, ◌^◌, None, List, is_some, OnErr, IfOk};
 ghost use Rattle.boki_types.specs.declared.line.Life.TheVariants.{Running};
-ghost use Rattle.boki_model.specs.Modes.{result_of};
+ghost use Rattle.boki_types.specs.declared.plan.Setup.{Setup};
+ghost use Rattle.boki_types.specs.declared.program.Function.{Function};
+ghost use Rattle.boki_model.specs.Writes.{Store};
 ghost use Rattle.boki_model.specs.Reads.{nth};
 ghost use Rattle.boki_model.specs.Bodies.{step_tag};
-ghost use Rattle.boki_machine.specs.Attempt.{call_of};
-ghost use Rattle.boki_machine.specs.Step.{step_if_running, step_when_called, continue_step, attempt_ask};
-ghost use Rattle.book_api.specs.Books.{next_sent};
-ghost use Rattle.step_log.specs.Sound.{view};
+ghost use Rattle.boki_machine.specs.Attempt.{Attempt, call_of};
+ghost use Rattle.boki_machine.specs.Step.{step_if_running, step_when_called, continue_step, attempt_ask, answers_to};
+ghost use Rattle.book_api.specs.Books.{HasEngine, next_sent};
+ghost use Rattle.step_log.specs.Sound.{Sound, view};
 ghost use Rattle.attempt_state.specs.Attempts.{HasScript};
 ghost use Rattle.boki_flow.specs.Arms.{Always, CanFlowIf, MovesBy, CutShortBy};
-ghost use Rattle.boki_flow.specs.Flow.{move_of};
+ghost use Rattle.boki_flow.specs.Flow.{FlowStandsFor, move_of};
 
 use crate::adopting::adopt;
 use crate::asking::step_script;
@@ -122,7 +124,13 @@ fn step_on(
 }
 
 /// Whether an operation is asked, and the record at the attempt's place has its index.
-pub(crate) fn is_answered(parts: &Parts, state: &AttemptState) -> bool {
+pub(crate) fn is_answered(parts: &Parts, state: &AttemptState) -> bool
+    requires engine { HasEngine state.now.progress.engine parts.now.book }
+    requires sound { Sound parts.now.book }
+    requires room { state.now.progress.answered + 1 < 2 ^ 64 }
+    ensures { (fs : List Function) (setup : Setup) (store : Store) (a : Attempt) → FlowStandsFor setup fs store a parts.now state.now → HasScript a
+        → result ≡ is_some (answers_to a (attempt_ask fs a) (nth (step_tag a.path) a.place (view parts.now.book a.engine))) }
+{
     let at = &state.progress;
     if !state.asks_operation() {
         return false;
