@@ -228,9 +228,18 @@ fn plans_are_printed_in_their_canonical_text(rt: HostRuntime) -> Result<(), Fail
 }
 
 #[test]
+fn turns_are_judged(rt: HostRuntime) -> Result<(), Fail> {
+    let text = "setup 1 1 1 R\nobject \"x\" 1\nturns\n";
+    let (status, sink) = answer(rt.alloc(), &["judge"], text.as_bytes())?;
+    assert_eq!(rt; status, Status::Done);
+    assert_eq!(rt; sink.bytes(), b"report\nobject \"x\" 1\nend\n".as_slice());
+    Ok(())
+}
+
+#[test]
 fn other_words_give_the_usage_line(rt: HostRuntime) -> Result<(), Fail> {
     // Behind the words that are no command's stand the commands and options that aren't built yet.
-    let words: [&[&str]; 16] = [
+    let words: [&[&str]; 15] = [
         &[],
         &[""],
         &["run", "--with", "0"],
@@ -242,7 +251,6 @@ fn other_words_give_the_usage_line(rt: HostRuntime) -> Result<(), Fail> {
         &["run", "--json"],
         &["run", "--with", "all"],
         &["make", "5"],
-        &["judge"],
         &["live"],
         &["flow"],
         &["log"],
