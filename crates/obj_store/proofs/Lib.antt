@@ -1,5 +1,6 @@
 pub mod Positions
 pub mod InOrder
+pub mod TreeLemmas
 pub mod Entries
 pub mod Passing
 pub mod Fronts

@@ -1,4 +1,5 @@
 pub mod Ascending
+pub mod Versions
 pub mod Kept
 pub mod StandsFor
 pub mod Steps

@@ -15,6 +15,7 @@ mod objects;
 mod sorted;
 mod steps;
 mod store;
+mod version_tree;
 mod writes;
 
 pub use crate::answers::{Logged, Read};

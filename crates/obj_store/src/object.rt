@@ -1,23 +1,25 @@
 //! One object of the store.
 
-ghost use Rattle.std.specs.Prelude.{◌≡◌, ◌↔◌, ℕ, suc, max, nat_le, [], filter, length, option_copied, unwrap_or, ◌==◌, Some, IfOk, OnOk, OnErr, IsTrue};
+ghost use Rattle.std.specs.Prelude.{◌≡◌, ◌↔◌, ℕ, suc, max, false, filter, length, option_copied, option_map, unwrap_or, ◌==◌, Some, IfOk, OnOk, OnErr, IsTrue};
 ghost use Rattle.std.specs.Option.{option_or};
 ghost use Rattle.boki_model.specs.Writes.{write_at, later_write, last_write_below};
 ghost use Rattle.obj_store.specs.Ascending.{Ascend, has_at};
 ghost use Rattle.obj_store.specs.Kept.{KeptObject, empty_object, count_of, insert_write};
 ghost use Rattle.obj_store.specs.Steps.{version_status_of, swept_object};
+ghost use Rattle.obj_store.specs.Versions.{lent_write};
 
-use crate::writes::{PositionedWrite, count_at, has_write, keep_from, last_upto, pop_below};
+use crate::version_tree::Versions;
+use crate::writes::{PositionedWrite, WriteRef};
 use lb_base::{Memory, Seqnum, Value};
 use std::alloc::Global;
 use std::marker::Model;
 
-/// What the store keeps of an object: the last write below the floor, or the initial object; the versions at or above the floor,
-/// in the order of their positions; and the fence, 0 where none was raised.
+/// What the store keeps of an object: the last write below the floor, or the initial object; the versions at or above the floor; and
+/// the fence, 0 where none was raised.
 #[derive(Debug, Drop)]
 pub struct Object {
     base: Option<PositionedWrite>,
-    versions: Vec<PositionedWrite>,
+    versions: Versions,
     fence: u64,
 }
 
@@ -26,7 +28,7 @@ impl Model for Object {
 
     ghost Value = { KeptObject };
 
-    ghost view = { λ o. record { base = o.base; versions = o.versions.items; fence = o.fence } };
+    ghost view = { λ o. record { base = o.base; versions = o.versions; fence = o.fence } };
 }
 
 impl Object {
@@ -36,7 +38,7 @@ impl Object {
     {
         Object {
             base: None,
-            versions: Vec::new(alloc),
+            versions: Versions::new(alloc),
             fence: 0,
         }
     }
@@ -48,7 +50,7 @@ impl Object {
         let value = value.clone()?;
         Ok(Object {
             base: Some(PositionedWrite::new(0, 0, value)),
-            versions: Vec::new(alloc),
+            versions: Versions::new(alloc),
             fence: 0,
         })
     }
@@ -57,7 +59,7 @@ impl Object {
     pub fn len(&self) -> u64
         ensures { result ≡ count_of self.now }
     {
-        let versions = self.versions.len() as u64;
+        let versions = self.versions.len();
         if self.base.is_some() {
             versions + 1
         } else {
@@ -83,34 +85,32 @@ impl Object {
     pub fn has(&self, cursor: Seqnum, k: u64) -> bool
         ensures { Ascend self.now.versions → result ≡ has_at cursor.0 k self.now.versions }
     {
-        has_write(self.versions.as_slice(), cursor.0, k)
+        self.versions.has(cursor.0, k)
     }
 
     /// How many versions stand at a cursor.
     pub fn count_at(&self, cursor: Seqnum) -> u64
         ensures { Ascend self.now.versions → result ≡ length (filter (λ w. cursor.0 == w.first) self.now.versions) }
     {
-        count_at(self.versions.as_slice(), cursor.0) as u64
+        self.versions.count_at(cursor.0)
     }
 
     /// The last version whose first number is at most `last`, or else the base.
-    pub fn last_upto(&self, last: u64) -> Option<&PositionedWrite>
-        ensures { Ascend self.now.versions → option_copied result ≡ option_or (last_write_below (suc last) 0 self.now.versions) self.now.base }
+    pub fn last_upto(&self, last: u64) -> Option<WriteRef<'_>>
+        ensures { Ascend self.now.versions → option_map lent_write result ≡ option_or (last_write_below (suc last) 0 self.now.versions) self.now.base }
     {
-        match last_upto(self.versions.as_slice(), last) {
+        match self.versions.last_upto(last) {
             Some(version) => Some(version),
-            None => self.base.as_ref(),
+            None => lent(self.base.as_ref()),
         }
     }
 
-    /// Puts a version in at its index. After `Memory` the object is as before.
+    /// Puts a version in that isn't there. After `Memory` the object is as before.
     pub fn put(&mut self, version: PositionedWrite) -> Result<(), Memory>
-        ensures ok { Ascend self.old.versions → OnOk result (self.new ≡ record self.old { versions = insert_write version self.old.versions }) }
+        ensures ok { has_at version.first version.second self.old.versions ≡ false → OnOk result (self.new ≡ record self.old { versions = insert_write version self.old.versions }) }
         ensures err { OnErr result (self.new ≡ self.old) }
     {
-        let index = version.index_in(self.versions.as_slice());
-        self.versions.insert(index, version)?;
-        Ok(())
+        self.versions.put(version)
     }
 
     /// Raises the fence to at least `at`.
@@ -126,10 +126,9 @@ impl Object {
     pub fn sweep_below(&mut self, floor: Seqnum)
         ensures { Ascend self.old.versions → self.new ≡ swept_object floor.0 self.old }
     {
-        if let Some(last) = pop_below(&mut self.versions, floor.0) {
+        if let Some(last) = self.versions.take_below(floor.0) {
             self.base = Some(last);
         }
-        keep_from(&mut self.versions, floor.0);
     }
 
     /// Makes a logged write the base, where it isn't before the base.
@@ -140,6 +139,16 @@ impl Object {
             Some(base) if write.is_before_write(base) => {}
             _ => self.base = Some(write),
         }
+    }
+}
+
+// A write, where there is one, lent.
+fn lent(write: Option<&PositionedWrite>) -> Option<WriteRef<'_>>
+    ensures { option_map lent_write result ≡ option_copied write.entry }
+{
+    match write {
+        Some(write) => Some(write.lend()),
+        None => None,
     }
 }
 

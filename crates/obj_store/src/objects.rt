@@ -1,12 +1,12 @@
 //! The objects of the store, by their keys.
 
-ghost use Rattle.std.specs.Prelude.{◌≡◌, ◌+◌, ◌<◌, ◌^◌, ℕ, suc, true, bytes_eq, length, [], map, sum_by, slice_get, option_copied, Some, None, IsTrue, IfOk, OnOk, OnErr, List, ◌∷◌};
+ghost use Rattle.std.specs.Prelude.{◌≡◌, ◌+◌, ◌<◌, ◌^◌, ℕ, suc, true, bytes_eq, length, [], map, sum_by, slice_get, option_copied, Some, None, IsTrue, false, IfOk, OnOk, OnErr, List, ◌∷◌};
 ghost use Rattle.std.specs.List.{IsDistinct};
 ghost use Rattle.std.specs.Map.{lookup, keys_of, values_of};
 ghost use Rattle.boki_model.specs.Maps.{has};
 ghost use Rattle.boki_model.specs.Writes.{later_write};
 ghost use Rattle.indexmap.specs.IndexMap.{set_value_at};
-ghost use Rattle.obj_store.specs.Ascending.{Ascend};
+ghost use Rattle.obj_store.specs.Ascending.{has_at};
 ghost use Rattle.obj_store.specs.Kept.{KeptObject, object_in, has_key, total};
 ghost use Rattle.obj_store.specs.StandsFor.{KeysDiffer};
 ghost use Rattle.obj_store.specs.Steps.{AddsEmptyObjects, ChangesObject, HoldsInitialObjects, raised_to, with_version, swept_object, lifted_one, lifted, has_swept_write, count_at_cursor};
@@ -96,7 +96,7 @@ pub fn raise(objects: &mut Objects, key: &str, at: Seqnum)
 /// Puts a version of an object in that has an entry. After `Memory` each object is as before.
 pub fn put(objects: &mut Objects, key: &str, version: PositionedWrite) -> Result<(), Memory>
     requires { has_key key.now objects.old.entries ≡ true }
-    ensures ok { Ascend (object_in key.now objects.old.entries).versions → OnOk result (ChangesObject key.now (with_version version) objects.old.entries objects.new.entries) }
+    ensures ok { has_at version.first version.second (object_in key.now objects.old.entries).versions ≡ false → OnOk result (ChangesObject key.now (with_version version) objects.old.entries objects.new.entries) }
     ensures err { OnErr result (AddsEmptyObjects objects.old.entries objects.new.entries) }
 {
     if let Some(object) = objects.get_mut(Key { text: key }) {

@@ -4,15 +4,16 @@ ghost use Rattle.std.specs.Prelude.{◌≡◌, ◌+◌, ◌-◌, ℕ, suc, List,
 ghost use Rattle.std.specs.Option.{option_or};
 ghost use Rattle.boki_model.specs.Writes.{write_at, last_write_below, fenced_answer};
 ghost use Rattle.obj_store.specs.Answers.{logged_parts};
-ghost use Rattle.obj_store.specs.Ascending.{Ascend};
+ghost use Rattle.obj_store.specs.Ascending.{Ascend, has_at};
 ghost use Rattle.obj_store.specs.Kept.{KeptObject, object_in, total};
 ghost use Rattle.obj_store.specs.Steps.{AddsEmptyObjects, PutsVersion, value_upto, value_before, value_at_floor, value_of_last};
+ghost use Rattle.obj_store.specs.Versions.{lent_write};
 
 use crate::answers::Logged;
 use crate::names::Names;
 use crate::object::Object;
 use crate::objects::Objects;
-use crate::writes::{PositionedWrite, later_value};
+use crate::writes::{PositionedWrite, WriteRef, later_value};
 use crate::{names, objects};
 use boki_types::Fenced;
 use lb_base::{Memory, Seqnum, Value};
@@ -27,7 +28,7 @@ pub fn put_in(
     k: u64,
     value: &Value,
 ) -> Result<(), Memory>
-    ensures ok { Ascend (object_in key.now objects.old.entries).versions → OnOk result (PutsVersion key.now (write_at cursor.0 k value.now) objects.old.entries objects.new.entries) }
+    ensures ok { has_at cursor.0 k (object_in key.now objects.old.entries).versions ≡ false → OnOk result (PutsVersion key.now (write_at cursor.0 k value.now) objects.old.entries objects.new.entries) }
     ensures err { OnErr result (AddsEmptyObjects objects.old.entries objects.new.entries) }
 {
     let value = value.clone()?;
@@ -50,8 +51,8 @@ fn logged_value<'a>(named: &'a Names, floor: Seqnum, logged: &Logged<'a>) -> Opt
 }
 
 // The last write that is kept of an object whose first number is at most `last`.
-fn kept_upto<'a>(objects: &'a Objects, key: &str, last: u64) -> Option<&'a PositionedWrite>
-    ensures { Ascend (object_in key.now objects.now.entries).versions → option_copied result ≡ option_or (last_write_below (suc last) 0 (object_in key.now objects.now.entries).versions) (object_in key.now objects.now.entries).base }
+fn kept_upto<'a>(objects: &'a Objects, key: &str, last: u64) -> Option<WriteRef<'a>>
+    ensures { Ascend (object_in key.now objects.now.entries).versions → option_map lent_write result ≡ option_or (last_write_below (suc last) 0 (object_in key.now objects.now.entries).versions) (object_in key.now objects.now.entries).base }
 {
     match objects::find(objects, key) {
         Some(object) => object.last_upto(last),
@@ -61,15 +62,15 @@ fn kept_upto<'a>(objects: &'a Objects, key: &str, last: u64) -> Option<&'a Posit
 
 // The value of the last of a write that is kept and a logged one.
 fn last_of<'a>(
-    kept: Option<&'a PositionedWrite>,
+    kept: Option<WriteRef<'a>>,
     seq: Seqnum,
     logged: Option<&'a Value>,
 ) -> Option<&'a Value>
-    ensures { option_copied result ≡ value_of_last (option_copied kept.entry) seq.0 (option_copied logged.entry) }
+    ensures { option_copied result ≡ value_of_last (option_map lent_write kept.entry) seq.0 (option_copied logged.entry) }
 {
     match (kept, logged) {
         (Some(write), Some(value)) => Some(later_value(write, seq, value)),
-        (Some(write), None) => Some(write.value()),
+        (Some(write), None) => Some(write.value),
         (None, value) => value,
     }
 }
@@ -116,19 +117,19 @@ pub fn last_before<'a>(
 
 // A copy of the value of the last of a write that is kept and a logged one, which counts where it isn't below the floor.
 fn copy_last(
-    kept: Option<&PositionedWrite>,
+    kept: Option<WriteRef<'_>>,
     floor: Seqnum,
     seq: Seqnum,
     logged: Option<&Value>,
 ) -> Result<Fenced, Memory>
-    ensures { IfOk result (λ a. a ≡ fenced_answer (value_of_last (option_copied kept.entry) seq.0 (cond (nat_lt seq.0 floor.0) None (option_copied logged.entry)))) }
+    ensures { IfOk result (λ a. a ≡ fenced_answer (value_of_last (option_map lent_write kept.entry) seq.0 (cond (nat_lt seq.0 floor.0) None (option_copied logged.entry)))) }
 {
     match (kept, logged) {
         (Some(write), Some(value)) if seq >= floor => Ok(Fenced::Found(later_value(
             write, seq, value,
         ).clone()?)),
         (None, Some(value)) if seq >= floor => Ok(Fenced::Found(value.clone()?)),
-        (Some(write), _) => Ok(Fenced::Found(write.value().clone()?)),
+        (Some(write), _) => Ok(Fenced::Found(write.value.clone()?)),
         (None, _) => Ok(Fenced::Missing),
     }
 }

@@ -28,8 +28,8 @@ use std::marker::Model;
 /// It stands for a store of the definitions, which never drops a value: each call leaves it standing for the one that the
 /// definition's call leaves, and answers what that one answers. What it keeps is bounded by what reads at or above the floor need.
 ///
-/// A read, and a version that is put in, cost a look-up by the key and a search in the versions of that key, and the place of an
-/// old version is made by moving the later versions of its key. A sweep goes over all objects once.
+/// A read, and a version that is put in, cost a look-up by the key and one in the tree of that key's versions, so an old version
+/// moves no other. A sweep goes over all objects once.
 #[derive(Drop)]
 pub struct ObjStore {
     alloc: Global,

@@ -1,8 +1,9 @@
 use Rattle.std.proofs.Common.{◌≡◌, ◌∙◌, ◌≤◌, ◌+◌, sym, subst, arith, rules}
 use Rattle.boki_model.specs.Writes.{after_put}
-use Rattle.obj_store.specs.Kept.{StoreState}
+use Rattle.obj_store.specs.Kept.{StoreState, object_in}
 use Rattle.obj_store.specs.StandsFor.{StandsFor}
-use Rattle.obj_store.proofs.Puts.{up, case_told, put_there, put_fenced, put_free, free_puts}
+use Rattle.obj_store.proofs.Puts.{case_told, put_there, put_fenced, put_free, free_puts}
+use Rattle.obj_store.proofs.TreeLemmas.{is_free}
 use Rattle.obj_store.proofs.store.ObjStore.put_at.Goals as goal
 
 pub returns-in_err-held-in-Insertable-clause-no_memory : goal.returns-in_err-held-in-Insertable-clause-no_memory
@@ -42,4 +43,4 @@ returns-in_ok-put_in-in-Insertable-clause-ok c = λ m records stands.
     let case = sym (case_told _ m records S c.args.key.now c.args.cursor.0 c.args.k _ _ c.find.ensures c.version_status.ensures) ∙ c.in-Insertable.is in
     let more : c.in_ok-held-in-Insertable.held ≡ c.self.inside.held + 1 = search rules in
     put_free _ m records S c.args.key.now c.args.cursor.0 c.args.k c.args.value.now le c.put_in.new.objects.entries c.in_ok-held-in-Insertable.held c.requires case
-    (c.in_ok-put_in-in-Insertable.ensures.ok (up _ m records S c.args.key.now)) more
+    (c.in_ok-put_in-in-Insertable.ensures.ok (is_free c.args.cursor.0 c.args.k (object_in c.args.key.now c.self.inside.objects.entries) case)) more
