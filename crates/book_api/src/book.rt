@@ -1,4 +1,4 @@
-ghost use Rattle.std.specs.Prelude.{◌≡◌, ◌<◌, ◌≤◌, [], length, replicate, IfOk, All};
+ghost use Rattle.std.specs.Prelude.{◌≡◌, ◌<◌, ◌≤◌, ◌+◌, ◌^◌, [], length, replicate, IfOk, All};
 ghost use Rattle.lru.specs.LruCache.{lru_cache};
 ghost use Rattle.eng_index.specs.IndexState.{IsIndexOf};
 ghost use Rattle.book_api.specs.Books.{new_book, ordered, position, HasEngine};
@@ -71,6 +71,16 @@ impl Book {
         ensures { result ≡ position self.now engine }
     {
         self.index_of(engine).position()
+    }
+
+    /// How many of the ordered records the engine doesn't see yet.
+    pub fn behind(&self, engine: u32) -> u64
+        requires { HasEngine engine self.now }
+        ensures value { result + position self.now engine ≡ length (ordered self.now) }
+        ensures few { position self.now engine ≤ 2 ^ 63 }
+    {
+        let _index = self.index_of(engine);
+        self.length() - self.position(engine)
     }
 
     // The engine's index.
