@@ -1,0 +1,10 @@
+pub mod Firsts
+pub mod Opened
+pub mod Says
+pub mod GoesOn
+pub mod Found
+pub mod ModesGo
+pub mod Taken
+pub mod NextOnes
+pub mod Going
+pub mod Marked
