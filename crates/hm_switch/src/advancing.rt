@@ -12,7 +12,7 @@ use lb_base::{Memory, Seqnum};
 
 impl SwitchView {
     /// Goes on to the engine's position: over what came since the last call, each record once. The view is to be one of this
-    /// engine of the book, which is to be sound. After `Memory` it has forgotten all, and begins anew with the next call.
+    /// engine of the book, which is to be sound. After `Memory` it is still such a view, which may have gone back to no records.
     pub fn advance(&mut self, book: &Book, engine: u32) -> Result<(), Memory>
         requires engine { HasEngine engine book.now }
         requires sound { Sound book.now }

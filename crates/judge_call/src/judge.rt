@@ -56,8 +56,8 @@ pub fn judge_source<S: Source, K: Sink>(alloc: Global, source: &mut S, sink: &mu
 /// turn, where the text spells turns and each of them can be done; else `Refused`, with the line that says so: with the line
 /// and the kind for which [`parse_turns`](plan_lang::parse_turns) refuses the text, a text of more bytes with line 0 and
 /// `Length`, or with the line of the first turn that can't be done and `Illegal`. `ReadFault` and `WriteFault` come only where
-/// that device failed in this call. `Memory` comes where memory ran out, at any point. What the sink held before stays, and
-/// behind it stands what was written: under `WriteFault` and `Memory` a front of what was due, under `ReadFault` nothing.
+/// that device failed in this call. What the sink held before stays, and behind it stands what was written: under
+/// `WriteFault` and `Memory` a prefix of what was due, under `ReadFault` nothing.
 pub fn judge_top<S: Source, K: Sink>(
     alloc: Global,
     words: &[String],
