@@ -13,9 +13,9 @@ use Rattle.boki_model.specs.Order.{order, at_seq}
 use Rattle.shard_store.specs.Kept as stored
 use Rattle.meta_order.specs.MetalogState.{MetalogState}
 use Rattle.eng_index.specs.IndexState as shown
-use Rattle.book_api.specs.Books.{BookState, HasEngine, ordered, position, with_position, caught_up, all_caught_up, PositionRises, PositionsRise}
+use Rattle.book_api.specs.Books.{BookState, HasEngine, ordered, log_of, position, with_position, caught_up, all_caught_up, PositionRises, PositionsRise}
 use Rattle.book_api.specs.Inside.{book_state_of, position_of, IsView, CatchesUp, log_in}
-use Rattle.book_api.proofs.Prefix.{view_more, view_unchanged, at_seq_map}
+use Rattle.book_api.proofs.Prefix.{oldest_all, view_more, view_unchanged, at_seq_map}
 use Rattle.book_api.proofs.Views.{engine_within, kept_set}
 
 pub some_copied : {X : Type 0} (o : Option (Bor X)) (x : X) → option_copied o ≡ Some x → IsSome o
@@ -46,6 +46,13 @@ caught_same log first old new so_far same =
     let p = v.1 in
     let rises = so_far.rises in
     record { view = v.0; rises = omega arith }
+
+-- An index that has caught up from no record shows the whole list.
+pub whole_shown : (shards : stored.ShardsState) (metalog : MetalogState) (indexes : List shown.IndexState) (aux : List (LruCache ℕ (List ℕ))) (b : BookState) (i : shown.IndexState)
+    → book_state_of shards metalog indexes aux ≡ b → IsView (log_in shards metalog) i → position_of i ≡ length (log_in shards metalog) → shown.IsIndexOf (log_of b) i
+whole_shown shards metalog indexes aux b i view v end =
+    subst (λ (b : BookState). shown.IsIndexOf (log_of b) i) view
+    (subst (λ l. shown.IsIndexOf l i) (oldest_all (position_of i) (log_in shards metalog) (omega (arith, end))) v.shows)
 
 -- The engine of a book.
 

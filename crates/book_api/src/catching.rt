@@ -1,17 +1,21 @@
 //! Engines are caught up with the metalog, one or all of them, and lose what they had.
-ghost use Rattle.std.specs.Prelude.{◌≡◌, ◌≤◌, ◌<◌, ◌+◌, ◌^◌, ℕ, length, IfOk, OnErr, OnOk, IsTrue, All, slice_index_or};
+ghost use Rattle.std.specs.Prelude.{◌≡◌, ◌≤◌, ◌<◌, ◌+◌, ◌^◌, ℕ, [], length, IfOk, OnErr, OnOk, IsTrue, All, slice_index_or};
+ghost use Rattle.lru.specs.LruCache.{lru_cache};
 ghost use Rattle.boki_model.specs.OrderLaws.{CountsGrow};
 ghost use Rattle.meta_order.specs.MetalogState.{AreOrdered};
-ghost use Rattle.book_api.specs.Books.{HasEngine, IsCaughtUp, AreCaughtUp, restarted, PositionRises, PositionsRise};
+ghost use Rattle.eng_index.specs.IndexState.{IsIndexOf};
+ghost use Rattle.book_api.specs.Books.{HasEngine, log_of, IsCaughtUp, AreCaughtUp, restarted, PositionRises, PositionsRise};
 ghost use Rattle.book_api.specs.Inside.{IsView, log_in, position_of, CatchesUp, EachCatchesUp};
 
 use crate::book::Book;
 use crate::ordering::record_of;
+use aux_cache::Cache;
 use eng_index::Index;
 use engine_gate::Gate;
-use lb_base::{Memory, Seqnum};
+use lb_base::{List, Memory, Seqnum};
 use meta_order::Metalog;
 use shard_store::Shards;
+use std::alloc::Global;
 use std::thread;
 use std::thread::Threads;
 
@@ -47,16 +51,35 @@ impl Book {
         Ok(end)
     }
 
+    /// A new index of all ordered records, whatever the engines see of them. It is the caller's, and takes in nothing that is
+    /// ordered later.
+    pub fn whole(&self, alloc: Global) -> Result<Index, Memory>
+        ensures { IfOk result (IsIndexOf (log_of self.now)) }
+    {
+        let mut index = Index::new(alloc)?;
+        catch_index(&self.shards, &self.metalog, &mut index)?;
+        Ok(index)
+    }
+
     /// Takes from the engine what it had in memory: its position is 0, and it has no auxiliary data. It takes no memory, and keeps
-    /// the room of the engine's table of tags, which no clause says.
+    /// the room of the engine's index: that of its table of tags, and of each tag's list. Its time grows with the number of these
+    /// tags. No clause says so.
     pub fn restart(&mut self, engine: u32)
         requires { HasEngine engine self.old }
         ensures { self.new ≡ restarted engine self.old }
     {
         let index = (engine - 1) as usize;
-        self.indexes[index].clear();
-        self.aux[index].clear();
+        lose(&mut self.indexes[index], &mut self.aux[index]);
     }
+}
+
+// Takes out what an engine has in memory.
+fn lose(index: &mut Index, aux: &mut Cache<List<u8>>)
+    ensures index { IsIndexOf [] index.new }
+    ensures aux { aux.new ≡ lru_cache [] aux.old.cap }
+{
+    index.clear();
+    aux.clear();
 }
 
 /// Adds the ordered records that the index lacks. After `Memory` it has some of them.

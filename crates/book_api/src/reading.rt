@@ -1,6 +1,6 @@
 //! Reads at an engine's position.
 ghost use Rattle.std.specs.Prelude.{◌≡◌, ◌≤◌, ◌^◌, reverse, option_map};
-ghost use Rattle.boki_model.specs.Live.{count};
+ghost use Rattle.boki_model.specs.Live.{count, is_live};
 ghost use Rattle.boki_model.specs.Reads.{tagged_seqnums, nth_seq, read_next, read_prev, hidden_bound};
 ghost use Rattle.book_api.specs.Books.{HasEngine, position, seen, settled, ordered, trim_of_bytes};
 ghost use Rattle.book_api.specs.Trims.{bound_of, bound_at};
@@ -68,6 +68,14 @@ impl Book {
         ensures { option_map (λ seq. seq.0) result ≡ read_prev trim_of_bytes tag.0 (position self.now engine) (seen self.now engine) }
     {
         self.read_prev(engine, tag, Seqnum(self.position(engine)))
+    }
+
+    /// Whether there is a record with the seqnum that the engine sees, and it is live.
+    pub fn is_live(&self, engine: u32, seq: Seqnum) -> bool
+        requires { HasEngine engine self.now }
+        ensures { result ≡ is_live seq.0 (seen self.now engine) }
+    {
+        self.index_of(engine).live(seq)
     }
 
     /// What became of a record that was sent: it is live, or it is dead, as the place of its condition was taken. None comes

@@ -6,3 +6,4 @@ pub mod Maps
 pub mod Tags
 pub mod Added
 pub mod Ready
+pub mod Emptied

@@ -116,11 +116,12 @@ impl Index {
         lists::of_tag(&self.lists, tag.0)
     }
 
-    /// Takes each record out, so that the position is 0. It takes no memory.
+    /// Takes each record out, so that the position is 0. It takes no memory, and the index keeps the room that it has: that of the
+    /// table of tags, of each tag's list and of the marks. Its time grows with the number of the tags that it has met.
     pub fn clear(&mut self)
         ensures { IsIndexOf [] self.new }
     {
-        self.lists.clear();
+        lists::clear(&mut self.lists);
         self.marks.clear();
     }
 }

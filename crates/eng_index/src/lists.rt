@@ -1,6 +1,6 @@
 //! The lists of an index: for each tag the seqnums of its live records, ascending.
 
-ghost use Rattle.std.specs.Prelude.{◌≡◌, ℕ, ◌==◌, cond, nat_le, find, reverse, length, IsTrue, OnOk, option_map, slice_get};
+ghost use Rattle.std.specs.Prelude.{◌≡◌, ℕ, ◌==◌, cond, nat_le, find, [], reverse, length, IsTrue, OnOk, option_map, slice_get};
 ghost use Rattle.std.specs.List.Sorted.{IsNonDecreasing};
 ghost use Rattle.boki_model.specs.Live.{has_tag};
 ghost use Rattle.eng_index.specs.Lists.{seqs, with_last, HasRoom, IsReady, is_met};
@@ -78,6 +78,16 @@ pub fn push(lists: &mut Lists, tags: &[Tag], seq: u64)
     for tag in tags {
         push_one(lists, tag.0, seq);
     }
+}
+
+/// Takes out each seqnum. Each list keeps its room, and each tag its list. It goes over the tags once, and takes no memory.
+pub fn clear(lists: &mut Lists)
+    ensures { (t : ℕ) → seqs t lists.new ≡ [] }
+{
+    lists.retain(|_, list| {
+        list.clear();
+        true
+    });
 }
 
 /// The seqnum at a place of a list, counted from 0.

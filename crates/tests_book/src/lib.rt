@@ -13,6 +13,8 @@ mod meeting;
 #[cfg(test)]
 mod reads;
 #[cfg(test)]
+mod replicas;
+#[cfg(test)]
 mod restarts;
 #[cfg(test)]
 mod steps;

@@ -4,8 +4,9 @@ ghost use Rattle.book_api.specs.Books.{HasEngine};
 ghost use Rattle.tests_book.specs.Engines.{HasEngines, EnginesStay};
 
 use crate::common::{book_of_four, hide, order, put, put_at, show};
-use book_api::{Book, Cut, Sent, Settle};
+use book_api::{Book, Cut, Index, Sent, Settle};
 use lb_base::{Memory, Seqnum, Tag};
+use std::alloc::Global;
 use std::test::Fail;
 
 // Three records, two of them with the tag 5, which engine 1 sees and engine 2 doesn't.
@@ -147,6 +148,73 @@ fn the_second_at_a_place_is_taken(rt: HostRuntime) -> Result<(), Fail> {
     assert_eq!(rt; first, Some(Settle::Placed(Seqnum(1))));
     assert_eq!(rt; second, Some(Settle::Taken(Seqnum(2))));
     assert_eq!(rt; unseen, None);
+    Ok(())
+}
+
+// Two records that were sent for one place, which the first engine sees.
+fn one_place(book: &mut Book) -> Result<(), Memory>
+    requires { HasEngines 4 book.old }
+    ensures { EnginesStay book.old book.new }
+{
+    put_at(book, 2, 0, 7, "first")?;
+    put_at(book, 2, 0, 7, "second")?;
+    order(book)?;
+    show(book, 1)?;
+    Ok(())
+}
+
+// Whether seqnums are those of live records: for an engine that sees two, and for one that sees none.
+fn live_of_two(book: &mut Book) -> Result<[bool; 5], Memory>
+    requires { HasEngines 4 book.old }
+{
+    one_place(book)?;
+    Ok([
+        book.is_live(1, Seqnum(0)),
+        book.is_live(1, Seqnum(1)),
+        book.is_live(1, Seqnum(2)),
+        book.is_live(1, Seqnum(3)),
+        book.is_live(2, Seqnum(1)),
+    ])
+}
+
+#[test]
+fn the_first_at_a_place_is_live(rt: HostRuntime) -> Result<(), Fail> {
+    let mut book = book_of_four(rt.alloc())?;
+    let live = live_of_two(&mut book);
+    drop(book);
+    assert_eq!(rt; live?, [false, true, false, false, false]);
+    Ok(())
+}
+
+// What an index of the whole list tells of the tag 7, of which one more record is ordered than an engine has seen, and one more
+// sent; and the position of that engine.
+fn whole_of_three(alloc: Global, book: &mut Book) -> Result<(u64, u64, Option<Seqnum>, u64), Memory>
+    requires { HasEngines 4 book.old }
+{
+    one_place(book)?;
+    put(book, 2, 7, "third")?;
+    order(book)?;
+    put(book, 2, 7, "fourth")?;
+    let index = book.whole(alloc)?;
+    let (length, count, last) = told_by(&index);
+    drop(index);
+    Ok((length, count, last, book.position(1)))
+}
+
+fn told_by(index: &Index) -> (u64, u64, Option<Seqnum>) {
+    (
+        index.position(),
+        index.count(Tag(7)),
+        index.prev(Tag(7), Seqnum(u64::MAX)),
+    )
+}
+
+#[test]
+fn an_index_of_the_whole_list(rt: HostRuntime) -> Result<(), Fail> {
+    let mut book = book_of_four(rt.alloc())?;
+    let told = whole_of_three(rt.alloc(), &mut book);
+    drop(book);
+    assert_eq!(rt; told?, (3, 2, Some(Seqnum(3)), 2));
     Ok(())
 }
 
