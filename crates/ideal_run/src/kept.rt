@@ -20,7 +20,7 @@ pub(crate) struct Stored {
 /// A known invocation.
 #[derive(Drop)]
 pub(crate) struct KnownInvocation {
-    /// Where its script stands; nothing where the program has no such function of so many arguments.
+    /// Where its script stands; nothing once it has ended, and where the program has no such function of so many arguments.
     pub(crate) frame: Option<Frame>,
     /// Its result, once it has ended.
     pub(crate) result: Option<Outcome>,
