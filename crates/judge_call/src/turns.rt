@@ -31,11 +31,7 @@ fn do_turn(ideal: &mut Ideal, program: &Program, line: u64, turn: Turn) -> Resul
 }
 
 /// Does turns in order, which the execution takes over one by one. Refused comes exactly at the first that can't be done.
-fn do_turns(
-    ideal: &mut Ideal,
-    program: &Program,
-    turns: List<(u64, Turn)>,
-) -> Result<(), PlanFault>
+fn do_turns(ideal: &mut Ideal, program: &Program, turns: List<(u64, Turn)>) -> Result<(), PlanFault>
     requires few { length program.now.functions < 2 ^ 32 }
     requires requests { HaveRequests turns }
     ensures ok { OnOk result (AreDone program.now.functions turns ideal.old ideal.new) }
@@ -53,11 +49,7 @@ fn do_turns(
 }
 
 /// The report behind turns of a plan, or the line of the first that can't be done.
-fn report_of(
-    alloc: Global,
-    plan: &Plan,
-    turns: List<(u64, Turn)>,
-) -> Result<Report, PlanFault>
+fn report_of(alloc: Global, plan: &Plan, turns: List<(u64, Turn)>) -> Result<Report, PlanFault>
     requires { CanBeDone (record { plan = plan.now; turns = turns }) }
     ensures { Reports (record { plan = plan.now; turns = turns }) result }
 {

@@ -2,4 +2,4 @@ use Rattle.judge_call.proofs.Parsed.{can_be_done}
 use Rattle.judge_call.proofs.turns.judged_text.Goals as goal
 
 pub report_text_of-requires : goal.report_text_of-requires
-report_text_of-requires c = can_be_done c.args.text.now c.in_ok-turns.turns c.in_ok-turns.ensures
+report_text_of-requires c = can_be_done c.args.text.items c.in_ok-turns.field-0 c.in_ok-turns.ensures
