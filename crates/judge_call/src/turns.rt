@@ -76,7 +76,7 @@ fn report_text_of(alloc: Global, text: TurnText) -> Result<Words, PlanFault>
 pub fn judged_text(alloc: Global, text: Vec<u8>) -> Result<Words, PlanFault>
     ensures { Gives result (judged_of text.items) }
 {
-    let turns = parse_turns(alloc, &text);
+    let turns = parse_turns(alloc, text.as_slice());
     drop(text);
     report_text_of(alloc, turns?)
 }
