@@ -28,7 +28,7 @@ use Rattle.ideal_run.specs.declared.kept.Stored.{Stored}
 use Rattle.ideal_run.specs.declared.running.Running.{Running}
 use Rattle.ideal_run.specs.Kept.{Maps, unpopped_values, may_commit, committed, with_writes, commit_of, name_in}
 use Rattle.ideal_run.specs.Kept as kept
-use Rattle.ideal_run.specs.Standing.{FrameStands, TransactionStands, KnownStands, BothStand, MapsStandFor, known_of, with_running}
+use Rattle.ideal_run.specs.Standing.{KeepsFrame, TransactionStands, KnownStands, BothStand, MapsStandFor, known_of, with_running}
 use Rattle.ideal_run.specs.Acts.{Performs, CannotPerform, joined_in}
 use Rattle.ideal_run.proofs.Asking.{asked_right, child_is, child_of_is}
 use Rattle.ideal_run.proofs.Mapped.{get-put, get_same, get_other, same_itself, same_key, each_get, each_in_order}
@@ -88,11 +88,12 @@ committed_both : (fs : List Function) (commits : ℕ) (ws : List (List ℕ × Va
 committed_both fs commits ws names depth None None stands = tt
 committed_both fs commits ws names depth None (Some i) stands = absurd stands
 committed_both fs commits ws names depth (Some w) None stands = absurd stands
-committed_both fs commits ws names depth (Some w) (Some i) stands = record { frame = at w.frame stands.frame; result = stands.result; transaction = transaction_more commits ws names w.begun i.transaction stands.transaction }
+committed_both fs commits ws names depth (Some w) (Some i) stands = record { frame = at w.result w.frame stands.frame; result = stands.result; transaction = transaction_more commits ws names w.begun i.transaction stands.transaction }
   where
-    at : (f : Option frame.FrameState) → FrameStands fs depth i f → FrameStands fs depth (record i { transaction = add_dirty (written_names ws) i.transaction }) f
-    at None is = is
-    at (Some f) is = is
+    at : (r : Option Outcome) (f : Option frame.FrameState) → KeepsFrame fs depth i r f → KeepsFrame fs depth (record i { transaction = add_dirty (written_names ws) i.transaction }) r f
+    at None None is = is
+    at None (Some f) is = is
+    at (Some outcome) f is = is
 
 module _ (fs : List Function) (p : List ℕ) (r : Running) (x : Maps) (m : Ideal) (stands : MapsStandFor fs m (with_running p r x)) where
   -- the invocation that is run
@@ -268,7 +269,7 @@ module _ (fs : List Function) (p : List ℕ) (r : Running) (x : Maps) (m : Ideal
         let n : Ideal = ideal.with_invocation q (new_invocation g args) (answers p i answer m) in
         let z : Maps = record x { invocations = put q spawns.known x.invocations } in
         let fresh : KnownStands fs x.names x.commits (length q) spawns.known (new_invocation g args) = record {
-          frame = spawns.starts.frame;
+          frame = subst (λ (r : Option Outcome). KeepsFrame fs (length q) (new_invocation g args) r spawns.known.frame) (sym spawns.starts.result) spawns.starts.frame;
           result = spawns.starts.result;
           transaction = subst (λ (o : Option ℕ). TransactionStands x.names x.commits o None) (sym spawns.starts.begun) tt;
         } in (

@@ -19,7 +19,7 @@ use Rattle.ideal_run.specs.declared.kept.KnownInvocation.{KnownInvocation}
 use Rattle.ideal_run.specs.declared.running.Running.{Running}
 use Rattle.ideal_run.specs.Kept.{Maps}
 use Rattle.ideal_run.specs.Changes.{changed_at}
-use Rattle.ideal_run.specs.Standing.{FrameStands, TransactionStands, KnownStands, BothStand, MapsStandFor, known_of, with_running}
+use Rattle.ideal_run.specs.Standing.{FrameStands, KeepsFrame, TransactionStands, KnownStands, BothStand, MapsStandFor, known_of, with_running}
 use Rattle.ideal_run.specs.Acts.{IsNewInvocation}
 use Rattle.ideal_run.specs.Turned.{LeadsTo, running_in, unless_done, outcome_of, ask_in, ending_in, with_result}
 use Rattle.ideal_run.proofs.Mapped.{get-put, same_key}
@@ -104,14 +104,14 @@ runs_to fs m x p r there stands = stands_by fs m (with_running p r x) (changed_a
 module _ (fs : List Function) (m : Ideal) (x : Maps) (p : List ℕ) (stands : MapsStandFor fs m x) where
   abbrev Agree : Option KnownInvocation → Option Invocation → Type 0
   Agree None None = Unit {0}
-  Agree (Some w) (Some i) = KnownStands fs x.names x.commits (length p) w i
+  Agree (Some w) (Some i) = KnownStands fs x.names x.commits (length p) w i × (w.result ≡ None)
   Agree _ _ = ⊥
 
-  unless_agree : (w : KnownInvocation) (i : Invocation) (a b : Option Outcome) → a ≡ b → KnownStands fs x.names x.commits (length p) w i → Agree (unless_done w a) (unless_ended i b)
-  unless_agree w i None None e both = both
-  unless_agree w i None (Some b) e both = absurd (let z : ⊥ = cc in z)
-  unless_agree w i (Some a) None e both = absurd (let z : ⊥ = cc in z)
-  unless_agree w i (Some a) (Some b) e both = tt
+  unless_agree : (w : KnownInvocation) (i : Invocation) (a b : Option Outcome) → w.result ≡ a → a ≡ b → KnownStands fs x.names x.commits (length p) w i → Agree (unless_done w a) (unless_ended i b)
+  unless_agree w i None None is e both = (both, is)
+  unless_agree w i None (Some b) is e both = absurd (let z : ⊥ = cc in z)
+  unless_agree w i (Some a) None is e both = absurd (let z : ⊥ = cc in z)
+  unless_agree w i (Some a) (Some b) is e both = tt
 
   pub agree : Agree (running_in (get p x.invocations)) (running_invocation p m)
   agree = at (get p x.invocations) (get p m.invocations) (stands.invocations p)
@@ -120,7 +120,7 @@ module _ (fs : List Function) (m : Ideal) (x : Maps) (p : List ℕ) (stands : Ma
       at None None both = tt
       at None (Some i) both = absurd both
       at (Some w) None both = absurd both
-      at (Some w) (Some i) both = unless_agree w i w.result i.result both.result both
+      at (Some w) (Some i) both = unless_agree w i w.result i.result refl both.result both
 
   -- nothing runs
   pub idle : running_in (get p x.invocations) ≡ None → running_invocation p m ≡ None
@@ -130,6 +130,9 @@ module _ (fs : List Function) (m : Ideal) (x : Maps) (p : List ℕ) (stands : Ma
       at None None both e = refl
       at None (Some i) both e = absurd both
       at (Some w) b both e = absurd (let z : ⊥ = cc in z)
+
+  frame_kept : (w : KnownInvocation) (i : Invocation) → w.result ≡ None → KnownStands fs x.names x.commits (length p) w i → FrameStands fs (length p) i w.frame
+  frame_kept w i runs both = subst (λ (r : Option Outcome). KeepsFrame fs (length p) i r w.frame) runs both.frame
 
   asks_is : (i : Invocation) (f : Option frame.FrameState) → FrameStands fs (length p) i f → option_and_then (λ g. Some g.ask) f ≡ invocation_ask fs p i
   asks_is i None stand = sym stand
@@ -143,7 +146,7 @@ module _ (fs : List Function) (m : Ideal) (x : Maps) (p : List ℕ) (stands : Ma
       at None None both = refl
       at None (Some i) both = absurd both
       at (Some w) None both = absurd both
-      at (Some w) (Some i) both = asks_is i w.frame both.frame
+      at (Some w) (Some i) both = asks_is i w.frame (frame_kept w i both.1 both.0)
 
   -- An end.
 
@@ -182,7 +185,7 @@ module _ (fs : List Function) (m : Ideal) (x : Maps) (p : List ℕ) (stands : Ma
       at None g =
           let here : ending_in (Some w) ≡ option_and_then outcome_of (option_and_then (λ f. Some f.ask) w.frame) =
           ap (λ (r : Option Outcome). option_and_then outcome_of (option_and_then (λ v. option_and_then (λ f. Some f.ask) v.frame) (unless_done w r))) g in
-          (i, (w, refl, both), (refl, refl, sym both.result ∙ g, done_asked outcome (invocation_ask fs p i) (ap (option_and_then outcome_of) (sym (asks_is i w.frame both.frame)) ∙ sym here ∙ e)))
+          (i, (w, refl, both), (refl, refl, sym both.result ∙ g, done_asked outcome (invocation_ask fs p i) (ap (option_and_then outcome_of) (sym (asks_is i w.frame (frame_kept w i g both))) ∙ sym here ∙ e)))
 
   beside_end : (outcome : Outcome) (w : KnownInvocation) (i : Invocation) → get p x.invocations ≡ Some w → KnownStands fs x.names x.commits (length p) w i → (q : List ℕ) (b : Bool) → bytes_eq q p ≡ b
       → BothStand fs x.names x.commits (length q) (cond b (option_map (with_result outcome) (get q x.invocations)) (get q x.invocations)) (cond b (Some (record i { result = Some outcome })) (get q m.invocations))
@@ -192,11 +195,7 @@ module _ (fs : List Function) (m : Ideal) (x : Maps) (p : List ℕ) (stands : Ma
       subst (λ (o : Option KnownInvocation). BothStand fs x.names x.commits (length q) (option_map (with_result outcome) o) (Some (record i { result = Some outcome })))
       (sym (ap (λ (z : List ℕ). get z x.invocations) same ∙ is))
       (subst (λ n. KnownStands fs x.names x.commits n (with_result outcome w) (record i { result = Some outcome })) (ap length (sym same))
-      (record { frame = frame_still i w.frame both.frame; result = refl; transaction = both.transaction }))
-    where
-      frame_still : (i : Invocation) (f : Option frame.FrameState) → FrameStands fs (length p) i f → FrameStands fs (length p) (record i { result = Some outcome }) f
-      frame_still i None is = is
-      frame_still i (Some f) is = is
+      (record { frame = refl; result = refl; transaction = both.transaction }))
 
   pub ends : (outcome : Outcome) → ending_in (get p x.invocations) ≡ Some outcome → (es : List (List ℕ × KnownInvocation)) → es ≡ changed_at (is_at (key_order p)) (with_result outcome) x.invocations
       → LeadsTo fs (ideal.apply_turn fs (t.End p) m) (record x { invocations = es })
@@ -266,7 +265,7 @@ module _ (fs : List Function) (m : Ideal) (x : Maps) (request f : ℕ) (args : L
       names = stands.names;
       numbered = stands.numbered;
       invocations = put_stands fs x.names x.commits at_request known (new_invocation f args) x.invocations m.invocations (λ q _. stands.invocations q) (record {
-        frame = starts.frame;
+        frame = subst (λ (r : Option Outcome). KeepsFrame fs 1 (new_invocation f args) r known.frame) (sym starts.result) starts.frame;
         result = starts.result;
         transaction = subst (λ (o : Option ℕ). TransactionStands x.names x.commits o None) (sym starts.begun) tt;
       });
@@ -294,7 +293,7 @@ module _ (fs : List Function) (m : Ideal) (x : Maps) (p : List ℕ) (stands : Ma
       at (Some v) (Some i) both e =
           let same : v ≡ w = cc in
           let no_frame : v.frame ≡ None = ap (λ (z : KnownInvocation). z.frame) same ∙ none in
-          ap (perform p i m) (sym (asks_is fs m x p stands i v.frame both.frame) ∙ ap (option_and_then (λ (g : frame.FrameState). Some g.ask)) no_frame)
+          ap (perform p i m) (sym (asks_is fs m x p stands i v.frame (frame_kept fs m x p stands v i both.1 both.0)) ∙ ap (option_and_then (λ (g : frame.FrameState). Some g.ask)) no_frame)
 
       first : (b : Option Invocation) → running_invocation p m ≡ b → option_and_then (λ i. perform p i m (invocation_ask fs p i)) (running_invocation p m) ≡ None → perform_many fs 1 p m ≡ None
       first None e gone = ap (λ (o : Option Invocation). option_and_then (perform_next fs p) (option_map (λ i. m) o)) e

@@ -1,5 +1,6 @@
 -- For which state of the definitions a state stands. Running invocations are told of beside it.
 use Rattle.std.specs.Prelude.{◌≡◌, ◌≤◌, ℕ, List, map, length, Option, Some, None}
+use Rattle.lb_base.specs.declared.value.Outcome.{Outcome}
 use Rattle.boki_types.specs.declared.program.Function.{Function}
 use Rattle.boki_model.specs.Maps.{get, put, has}
 use Rattle.boki_model.specs.MapLaws.{InOrder}
@@ -22,6 +23,11 @@ abbrev pub FrameStands : List Function → ℕ → Invocation → Option frame.F
 FrameStands fs depth i None = next_ask fs i.function i.args depth i.answers ≡ None
 FrameStands fs depth i (Some f) = frame.FrameStandsFor fs i.function i.args depth i.answers f
 
+-- An invocation that runs keeps where its script stands, and one that has this result keeps nothing of it.
+abbrev pub KeepsFrame : List Function → ℕ → Invocation → Option Outcome → Option frame.FrameState → Type 0
+KeepsFrame fs depth i None f = FrameStands fs depth i f
+KeepsFrame fs depth i (Some outcome) f = f ≡ None
+
 -- In an open transaction a name is dirty exactly where a commit behind its begin wrote it.
 abbrev pub TransactionStands : List (List ℕ × Stored) → ℕ → Option ℕ → Option Dirty → Type 0
 TransactionStands names commits None None = Unit {0}
@@ -29,7 +35,7 @@ TransactionStands names commits (Some begun) (Some dirty) = (begun ≤ commits) 
 TransactionStands names commits _ _ = ⊥
 
 pub record KnownStands (fs : List Function) (names : List (List ℕ × Stored)) (commits : ℕ) (depth : ℕ) (known : KnownInvocation) (i : Invocation) : Type 0 where
-  pub frame : FrameStands fs depth i known.frame
+  pub frame : KeepsFrame fs depth i known.result known.frame
   pub result : known.result ≡ i.result
   pub transaction : TransactionStands names commits known.begun i.transaction
 

@@ -62,5 +62,6 @@ ask_in o = option_and_then (λ w. option_and_then (λ f. Some f.ask) w.frame) (r
 abbrev pub ending_in : Option KnownInvocation → Option Outcome
 ending_in o = option_and_then outcome_of (ask_in o)
 
+-- an invocation that has ended
 abbrev pub with_result : Outcome → KnownInvocation → KnownInvocation
-with_result outcome w = record w { result = Some outcome }
+with_result outcome w = record w { frame = None; result = Some outcome }

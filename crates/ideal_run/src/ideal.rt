@@ -7,6 +7,7 @@ ghost use Rattle.boki_machine.specs.Ideal as ideal;
 ghost use Rattle.boki_machine.specs.Reports.{ideal_report};
 ghost use Rattle.ideal_run.specs.declared.fault.TurnFault.TheVariants as fault;
 ghost use Rattle.ideal_run.specs.Turned.{HasRequest};
+ghost use Rattle.ideal_run.specs.Kept.{maps_of};
 ghost use Rattle.ideal_run.specs.Judged.{StandsFor, IsDone, IsUndefined, IsReportOf, IsAsked};
 ghost use Rattle.ideal_run.specs.Faults.{OnIllegal};
 
@@ -14,7 +15,7 @@ use crate::copies::{copy_turn, copy_turns};
 use crate::fault::TurnFault;
 use crate::state::State;
 use boki_types::{Ask, Plan, Program, Report, Turn};
-use lb_base::{Memory, Path};
+use lb_base::{List, Memory, Path};
 use std::alloc::Global;
 use std::marker::Model;
 
@@ -34,6 +35,19 @@ impl Model for Ideal {
     ghost Value = { IdealState };
 
     ghost view = { λ a. record { maps = maps_of a.state; turns = a.turns.items } };
+}
+
+/// The report of turns that led to a state.
+fn report_with(state: &State, turns: List<Turn>) -> Result<Report, Memory>
+    ensures { IfOk result (IsReportOf (record { maps = maps_of state.now; turns = turns })) }
+{
+    Ok(Report {
+        turns,
+        results: state.results()?,
+        objects: state.all_objects()?,
+        queues: state.all_queues()?,
+        stores: state.all_stored()?,
+    })
 }
 
 impl Ideal {
@@ -63,23 +77,49 @@ impl Ideal {
         ensures err { OnErr result (self.new ≡ self.old) }
     {
         let copy = copy_turn(turn)?;
-        self.turns.reserve(1)?;
-        self.state.turn(program, turn)?;
-        self.turns.push_reserved(copy);
-        Ok(())
+        self.take_turn(program, copy)
+    }
+
+    /// Does a turn that is handed over, as [`turn`](Ideal::turn) does, and without a copy of it. After an error it is dropped.
+    pub fn take_turn(&mut self, program: &Program, turn: Turn) -> Result<(), TurnFault>
+        requires few { length program.now.functions < 2 ^ 32 }
+        requires request { HasRequest turn }
+        ensures ok { OnOk result (IsDone program.now.functions turn self.old self.new) }
+        ensures illegal { OnIllegal result (IsUndefined program.now.functions turn self.old) }
+        ensures err { OnErr result (self.new ≡ self.old) }
+    {
+        if self.turns.reserve(1).is_err() {
+            drop(turn);
+            return Err(TurnFault::Memory);
+        }
+        match self.state.turn(program, &turn) {
+            Ok(()) => {
+                self.turns.push_reserved(turn);
+                Ok(())
+            }
+            Err(fault) => {
+                drop(turn);
+                Err(fault)
+            }
+        }
     }
 
     /// The turns, the results by path, and the objects, queues and store names by name; or `Memory`.
     pub fn report(&self) -> Result<Report, Memory>
         ensures { IfOk result (IsReportOf self.now) }
     {
-        Ok(Report {
-            turns: copy_turns(self.state.alloc, self.turns.as_slice())?,
-            results: self.state.results()?,
-            objects: self.state.all_objects()?,
-            queues: self.state.all_queues()?,
-            stores: self.state.all_stored()?,
-        })
+        let turns = copy_turns(self.state.alloc, self.turns.as_slice())?;
+        report_with(&self.state, turns)
+    }
+
+    /// The report, as [`report`](Ideal::report) gives it, with the turns themselves and no copies; or `Memory`.
+    pub fn into_report(self) -> Result<Report, Memory>
+        ensures { IfOk result (IsReportOf self) }
+    {
+        let Ideal { state, turns } = self;
+        let report = report_with(&state, List::from_vec(turns));
+        drop(state);
+        report
     }
 
     /// What an invocation asks next, or how its script ended: nothing where the path isn't known, has a result, or calls no

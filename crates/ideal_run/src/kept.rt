@@ -1,7 +1,7 @@
 //! What a state keeps of a queue, a store name and an invocation.
 
+use crate::kept_frame::KeptFrame;
 use lb_base::{List, Outcome, Path, Value, Words};
-use script_run::Frame;
 
 /// A queue: all values that were pushed since it became known, of which the first `front` were popped.
 #[derive(Drop)]
@@ -20,8 +20,8 @@ pub(crate) struct Stored {
 /// A known invocation.
 #[derive(Drop)]
 pub(crate) struct KnownInvocation {
-    /// Where its script stands; nothing where the program has no such function of so many arguments.
-    pub(crate) frame: Option<Frame>,
+    /// Where its script stands; nothing once it has ended, and where the program has no such function of so many arguments.
+    pub(crate) frame: Option<KeptFrame>,
     /// Its result, once it has ended.
     pub(crate) result: Option<Outcome>,
     /// How many commits had succeeded at the begin of its open transaction.

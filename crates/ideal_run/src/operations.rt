@@ -11,6 +11,7 @@ ghost use Rattle.ideal_run.specs.Faults.{OnIllegal};
 
 use crate::fault::TurnFault;
 use crate::kept::KnownInvocation;
+use crate::kept_frame::KeptFrame;
 use crate::state::State;
 use boki_types::{Answer, Op, Program};
 use lb_base::{Memory, Outcome, Path, Value};
@@ -53,7 +54,7 @@ pub(crate) fn start(
         });
     }
     let depth = path.depth() as u8;
-    let frame = Frame::new(alloc, program, function, args, depth)?;
+    let frame = KeptFrame::new(alloc, Frame::new(alloc, program, function, args, depth)?)?;
     Ok(KnownInvocation {
         frame: Some(frame),
         result: None,

@@ -11,16 +11,16 @@ ghost use Rattle.ideal_run.specs.Turned.{FollowsStep, IsUndefinedFor, StaysKnown
 ghost use Rattle.ideal_run.specs.Faults.{OnIllegal};
 
 use crate::fault::TurnFault;
+use crate::kept_frame::KeptFrame;
 use crate::state::State;
 use boki_types::{Ask, Program};
 use lb_base::Path;
-use script_run::Frame;
 
 /// An invocation that a turn runs: where its script stands, and how many commits had succeeded at the begin of its open
 /// transaction.
 #[derive(Drop)]
 pub(crate) struct Running {
-    pub(crate) frame: Frame,
+    pub(crate) frame: KeptFrame,
     pub(crate) begun: Option<u64>,
 }
 

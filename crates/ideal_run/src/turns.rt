@@ -23,13 +23,21 @@ use boki_types::{Ask, Program, Turn};
 use lb_base::{Outcome, Path, Value};
 use std::collections::BTreeMap;
 
+/// Ends an invocation: it keeps its result, and no longer where its script stands.
+fn finish(known: &mut KnownInvocation, outcome: Outcome)
+    ensures { known.new ≡ with_result outcome known.old }
+{
+    drop(known.frame.take());
+    known.result = Some(outcome);
+}
+
 /// Gives a known invocation its result.
 fn set_result(invocations: &mut BTreeMap<Path, KnownInvocation>, path: Path, outcome: Outcome)
     ensures { invocations.new.entries
         ≡ changed_at (is_at (key_order path)) (with_result outcome) invocations.old.entries }
 {
     if let Some(known) = invocations.get_mut(&path) {
-        known.result = Some(outcome);
+        finish(known, outcome);
     }
 }
 

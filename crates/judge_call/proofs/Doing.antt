@@ -1,6 +1,6 @@
 -- Turns that are done one after another, and what that says of a text.
-use Rattle.std.proofs.Common.{◌≡◌, ◌≤◌, ℕ, List, [], ◌∷◌, ◌++◌, length, drop, Option, Some, None, Result, Ok, Err, refl, sym, ap, subst, ◌∙◌, append_assoc, arith}
-use Rattle.std.proofs.lemmas.Grind.{common_steps}
+use Rattle.std.proofs.Common.{◌≡◌, ℕ, List, [], ◌∷◌, ◌++◌, reverse, Option, Some, None, Result, Ok, Err, refl, sym, ap, subst, ◌∙◌, append_assoc}
+use Rattle.std.proofs.lemmas.List.{reverse-append}
 use Rattle.boki_types.specs.declared.kind.Kind.{Kind}
 use Rattle.boki_types.specs.declared.kind.Kind.TheVariants as kind
 use Rattle.boki_types.specs.declared.program.Function.{Function}
@@ -18,9 +18,9 @@ use Rattle.ideal_run.specs.Kept.{IdealState}
 use Rattle.judge_agrees.specs.Judged.{judge_in_order, judge_rest, judge_turns, judgement}
 use Rattle.judge_call.specs.Turns.{AreDone, Reports, StopsAt, TurnStops, TurnsLeadTo, turns_alone}
 
--- behind the last place nothing is left in a list
-pub nothing_left : {X : Type 0} (xs : List X) (i : ℕ) → length xs ≤ i → drop i xs ≡ []
-nothing_left xs i h = grind (arith, common_steps, h)
+-- the last of a list is the first of the list the other way round
+pub reversed_last : {X : Type 0} (all rest : List X) (x : X) → all ≡ rest ++ x ∷ [] → reverse all ≡ x ∷ reverse rest
+reversed_last all rest x e = ap reverse e ∙ reverse-append rest (x ∷ [])
 
 -- some turns are done, and these are left
 pub record HaveCome (fs : List Function) (turns rest : List (ℕ × Turn)) (old kept : IdealState) (m : Ideal) (ts : List Turn) : Type 0 where

@@ -14,8 +14,8 @@ use plan_lang::PlanFault;
 use std::alloc::Global;
 
 /// Writes the report of the turns that a text spells, or why there is none.
-fn judge_text<K: Sink>(alloc: Global, text: &[u8], sink: &mut K) -> Status
-    ensures meets { Meets result (judge_due text.now) (K.held sink.old) (K.held sink.new) }
+fn judge_text<K: Sink>(alloc: Global, text: Vec<u8>, sink: &mut K) -> Status
+    ensures meets { Meets result (judge_due text.items) (K.held sink.old) (K.held sink.new) }
     ensures wrote { Wrote result (K.held sink.old) (K.held sink.new) }
     ensures other { (result ≢ Status.ReadFault) × (result ≢ Status.Usage) }
     ensures write { result ≡ Status.WriteFault → CountRose (K.faults sink.old) (K.faults sink.new) }
@@ -43,7 +43,7 @@ pub fn judge_source<S: Source, K: Sink>(alloc: Global, source: &mut S, sink: &mu
     ensures write { result ≡ Status.WriteFault → CountRose (K.faults sink.old) (K.faults sink.new) }
 {
     match read_text(alloc, 16_777_216, source, sink) {
-        Ok(text) => judge_text(alloc, &text, sink),
+        Ok(text) => judge_text(alloc, text, sink),
         Err(status) => status,
     }
 }
