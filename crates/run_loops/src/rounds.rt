@@ -44,7 +44,9 @@ fn ask_nemesis<C: Cluster, R: Threads + Sync, G: Gate + Sync, K: Sink>(
     ensures later { K.faults sink.old ≤ K.faults sink.new }
 {
     let (number, answer) = ask_at(kept, at, seen);
-    do_added(rt, cluster, plan, seen.event, number, &answer, kept, gate, sink)
+    do_added(
+        rt, cluster, plan, seen.event, number, &answer, kept, gate, sink,
+    )
 }
 
 /// Asks each nemesis once, in order, and drops those that are spent then.

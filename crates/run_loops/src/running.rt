@@ -113,7 +113,16 @@ fn run_item<C: Cluster, R: Threads + Sync, G: Gate + Sync, K: Sink>(
     ensures later { K.faults sink.old ≤ K.faults sink.new }
 {
     match item {
-        Item::One(event) => run_list(rt, cluster, plan, n, std::slice::from_ref(event), kept, gate, sink),
+        Item::One(event) => run_list(
+            rt,
+            cluster,
+            plan,
+            n,
+            std::slice::from_ref(event),
+            kept,
+            gate,
+            sink,
+        ),
         Item::Repeat(times, events) => run_repeat(
             rt,
             cluster,

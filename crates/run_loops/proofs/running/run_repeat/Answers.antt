@@ -18,7 +18,7 @@ times-init g c =
     }
 
 pub run_list-requires-clause-valid : goal.run_list-requires-clause-valid
-run_list-requires-clause-valid g c =
+run_list-requires-clause-valid g c κs within =
     let left = c.args.times - (c.times.counter + 1) in
     let e : c.args.times - c.times.counter ≡ suc left = omega arith in
     (each_parts (λ e. IsTrue (is_event c.args.plan.now.setup c.args.plan.now.program.functions e)) c.args.events.now (repeat_events left c.args.events.now) (repeat_events (c.args.times - c.times.counter) c.args.events.now)
