@@ -1,7 +1,7 @@
 -- A run that ends before it has its plan, and one that is exactly once.
-use Rattle.std.proofs.Common.{◌≡◌, ℕ, Bool, List, [], Option, Some, None, Result, Ok, Err, refl, subst}
+use Rattle.std.proofs.Common.{◌≡◌, ◌≢◌, ℕ, Bool, List, [], Option, Some, None, Result, Ok, Err, refl, subst}
 use Rattle.std.specs.Prelude.{IfSome, IsTrue}
-use Rattle.lb_base.specs.Devices.{Appends}
+use Rattle.lb_base.proofs.DeviceLemmas.{AppendsPrefix-none}
 use Rattle.boki_types.specs.declared.plan.Plan.{Plan}
 use Rattle.line_text.specs.declared.fault.TextFault.{TextFault}
 use Rattle.line_text.specs.declared.fault.TextFault.TheVariants as faults
@@ -15,6 +15,7 @@ use Rattle.call_base.specs.declared.status.Status.{Status}
 use Rattle.call_base.specs.declared.status.Status.TheVariants.{Done, Refused, Usage, ReadFault, WriteFault, Memory}
 use Rattle.call_base.specs.Due.{Due, Meets, due, due_by, within}
 use Rattle.call_base.proofs.DueLemmas.{ended_is}
+use Rattle.command_line.specs.declared.request.With.{With}
 use Rattle.run_call.specs.Runs.{IsExactRun, RunsByLaws, run_due, run_text}
 
 -- a call that ends before it has its text ends as is due on the text, whatever is due on a plan
@@ -52,3 +53,17 @@ exact_run s json kept None old new e m = tt
 exact_run s json kept (Some text) old new e m =
     let P : Status → Type 0 = λ x. Meets x (run_due json kept text) old new in
     exact_by json kept text old new (plan_of text) refl (subst P e m)
+
+-- nothing was written where there was no room
+pub no_run : (json : Bool) (kept : List NumberedNemesis) (o old : Option (List ℕ)) → IfSome o (λ text. Meets Memory (run_due json kept text) old old)
+no_run json kept None old = tt
+no_run json kept (Some text) old = AppendsPrefix-none old _
+
+pub no_run_asked : (asked : Option (Option With × Bool)) (keeps : Option With → List NumberedNemesis) (o old : Option (List ℕ))
+    → IfSome asked (λ a. (Memory ≢ Usage) × IfSome o (λ text. Meets Memory (run_due a.1 (keeps a.0) text) old old))
+no_run_asked None keeps o old = tt
+no_run_asked (Some a) keeps o old = (λ e. cc, no_run a.1 (keeps a.0) o old)
+
+pub laws_asked : (asked : Option (Option With × Bool)) (keeps : Option With → List NumberedNemesis) (o : Option (List ℕ)) → IfSome asked (λ a. IfSome o (λ text. RunsByLaws (keeps a.0) text))
+laws_asked None keeps o = tt
+laws_asked (Some a) keeps o = laws_of (keeps a.0) o

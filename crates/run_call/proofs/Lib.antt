@@ -1,3 +1,2 @@
-mod Choosing
 mod Ended
 mod Written

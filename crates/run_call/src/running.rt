@@ -22,12 +22,7 @@ use std::alloc::Global;
 use std::thread::Threads;
 
 /// A report as text: its lines, or one line of JSON.
-fn print_as(
-    alloc: Global,
-    json: bool,
-    report: &Report,
-    program: &Program,
-) -> Result<Words, Memory>
+fn print_as(alloc: Global, json: bool, report: &Report, program: &Program) -> Result<Words, Memory>
     ensures { IfOk result (λ w. w ≡ text_of_report json program.now.functions report.now) }
 {
     if json {
