@@ -7,7 +7,7 @@ use Rattle.run_loops.proofs.plain.apply_items.Goals as goal
 
 pub items-init : goal.items-init
 items-init g c = record {
-  going = λ m s. apply_start _ _ _ (events c.args.items.now) (events c.args.items.now) m s refl;
+  going = λ m s. apply_start c.args.plan.now.setup c.args.plan.now.program.functions _ (events c.args.items.now) (events c.args.items.now) m s refl;
   valid = c.requires.valid;
   number = refl;
   of = c.requires.plan;
@@ -31,7 +31,7 @@ items-preserved g c =
     let more = events_more c.args.items.now i c.item-item.result (omega arith) c.item-item.is in
     let long = length_parts (events_of c.item-item.result) (events (drop (i + 1) c.args.items.now)) (events (drop i c.args.items.now)) more in
     record {
-      going = λ m s. apply_behind _ _ _ _ (events (drop i c.args.items.now)) (events_of c.item-item.result) (events (drop (i + 1) c.args.items.now)) _ more (c.items.invariant.going m s) c.in_ok-apply_item.ensures.ok;
+      going = λ m s. apply_behind c.args.plan.now.setup c.args.plan.now.program.functions _ _ (events (drop i c.args.items.now)) (events_of c.item-item.result) (events (drop (i + 1) c.args.items.now)) _ more (c.items.invariant.going m s) c.in_ok-apply_item.ensures.ok;
       valid = (each_parts (λ e. IsTrue (is_event c.args.plan.now.setup c.args.plan.now.program.functions e)) (events_of c.item-item.result) (events (drop (i + 1) c.args.items.now)) (events (drop i c.args.items.now)) more c.items.invariant.valid).1;
       number = omega (arith, long, c.items.invariant.number, c.in_ok-apply_item.ensures.number);
       of = c.in_ok-apply_item.ensures.plan;

@@ -10,7 +10,7 @@ pub times-init : goal.times-init
 times-init g c =
     let e : c.args.times - 0 ≡ c.args.times = omega arith in
     record {
-      going = λ m s. apply_start _ _ _ (repeat_events (c.args.times - 0) c.args.events.now) (repeat_events c.args.times c.args.events.now) m s (ap (λ k. repeat_events k c.args.events.now) e);
+      going = λ m s. apply_start c.args.plan.now.setup c.args.plan.now.program.functions _ (repeat_events (c.args.times - 0) c.args.events.now) (repeat_events c.args.times c.args.events.now) m s (ap (λ k. repeat_events k c.args.events.now) e);
       valid = subst (AllByRecursion (λ x. IsTrue (is_event c.args.plan.now.setup c.args.plan.now.program.functions x))) (ap (λ k. repeat_events k c.args.events.now) (sym e)) c.requires.valid;
       number = ap (λ k. c.args.n.now + length (repeat_events k c.args.events.now)) e;
       of = c.requires.plan;
@@ -37,7 +37,7 @@ times-preserved g c =
     let more = repeated_more (c.args.times - c.times.counter) left c.args.events.now e in
     let long = length_parts c.args.events.now (repeat_events left c.args.events.now) (repeat_events (c.args.times - c.times.counter) c.args.events.now) more in
     record {
-      going = λ m s. apply_behind _ _ _ _ (repeat_events (c.args.times - c.times.counter) c.args.events.now) c.args.events.now (repeat_events left c.args.events.now) _ more (c.times.invariant.going m s) c.in_ok-apply_list.ensures.ok;
+      going = λ m s. apply_behind c.args.plan.now.setup c.args.plan.now.program.functions _ _ (repeat_events (c.args.times - c.times.counter) c.args.events.now) c.args.events.now (repeat_events left c.args.events.now) _ more (c.times.invariant.going m s) c.in_ok-apply_list.ensures.ok;
       valid = (each_parts (λ e. IsTrue (is_event c.args.plan.now.setup c.args.plan.now.program.functions e)) c.args.events.now (repeat_events left c.args.events.now) (repeat_events (c.args.times - c.times.counter) c.args.events.now) more c.times.invariant.valid).1;
       number = omega (arith, long, c.times.invariant.number, c.in_ok-apply_list.ensures.number);
       of = c.in_ok-apply_list.ensures.plan;
