@@ -15,6 +15,7 @@ use plan_lang::make_plan;
 use run_call::PlanCluster;
 use std::alloc::Global;
 use std::thread::Threads;
+use transfer_laws::transfers_are_plans;
 
 /// What [`make_top`] does where its words ask for the summary: it runs the plan of so many transfers.
 pub fn summarize_transfers<C: PlanCluster + Drop, R: Threads + Sync, K: Sink>(
@@ -30,6 +31,7 @@ pub fn summarize_transfers<C: PlanCluster + Drop, R: Threads + Sync, K: Sink>(
     ensures other { (result ≢ Status.ReadFault) × (result ≢ Status.Usage) }
     ensures write { result ≡ Status.WriteFault → CountRose (K.faults sink.old) (K.faults sink.new) }
 {
+    transfers_are_plans();
     let Ok(plan) = make_plan(alloc, n) else {
         return Status::Memory;
     };

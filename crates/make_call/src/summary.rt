@@ -46,9 +46,9 @@ fn summary_string(
     let ended = report.results.len();
     let objects = report.objects.len();
     let sum = sum(report.objects.as_slice());
-    Ok(
-        format!(in alloc; "events {count} records {records} turns {turns} ended {ended} objects {objects} sum {sum}\n")?,
-    )
+    Ok(format!(in alloc;
+        "events {count} records {records} turns {turns} ended {ended} objects {objects} sum {sum}\n"
+    )?)
 }
 
 /// Runs a plan on a new cluster with no nemeses, without making a line of its events, and tells what has come of it in one.

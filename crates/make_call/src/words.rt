@@ -20,10 +20,7 @@ fn make_of(request: Option<Request>) -> Option<(u32, bool)>
 }
 
 /// How many transfers the words ask for, from 1 to 4,000, and whether they ask for the plan.
-pub(crate) fn read_words(
-    alloc: Global,
-    words: &[String],
-) -> Result<Option<(u32, bool)>, Memory>
+pub(crate) fn read_words(alloc: Global, words: &[String]) -> Result<Option<(u32, bool)>, Memory>
     ensures value { IfOk result (λ a. a ≡ asked (map string_bytes words.now)) }
     ensures range { IfOk result (λ o. IfSome o (λ a. (1 ≤ a.0) × (a.0 ≤ 4000))) }
 {

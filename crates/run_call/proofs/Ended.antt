@@ -1,5 +1,5 @@
 -- A run that ends before it has its plan, and one that is exactly once.
-use Rattle.std.proofs.Common.{◌≡◌, ◌≢◌, ℕ, Bool, List, [], Option, Some, None, Result, Ok, Err, refl, subst}
+use Rattle.std.proofs.Common.{◌≡◌, ◌≢◌, ℕ, Bool, List, [], Option, Some, None, Result, Ok, Err, refl, sym, subst}
 use Rattle.std.specs.Prelude.{IfSome, IsTrue}
 use Rattle.lb_base.proofs.DeviceLemmas.{AppendsPrefix-none}
 use Rattle.boki_types.specs.declared.plan.Plan.{Plan}

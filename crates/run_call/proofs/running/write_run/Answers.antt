@@ -1,4 +1,4 @@
-use Rattle.std.proofs.Common.{◌≡◌, ◌∙◌, List, ℕ}
+use Rattle.std.proofs.Common.{◌∙◌}
 use Rattle.std.proofs.lemmas.Result.{err_from_is_err_and}
 use Rattle.lb_base.proofs.DeviceLemmas.{AppendsPrefix-none}
 use Rattle.output_lines.specs.Outputs.{output_text}
@@ -28,10 +28,8 @@ pub returns-clause-ok : goal.returns-clause-ok
 returns-clause-ok g c =
     let fs = c.args.plan.now.program.functions in
     let report = c.in_ok-text.ensures _ (c.in_ok-run_events.ensures.behind c.in_ok-cluster.ensures.initial) in
-    let value = c.as_bytes.ensures.value in
-    let view = c.text.view_is in
     both c.write_text.result (g.K.Sink.held c.args.sink.now) (g.K.Sink.held c.run_events.new.sink) (g.K.Sink.held c.write_text.new.sink) _ _ _ _
-    (same_lines (g.C.Cluster.line_text fs) (output_text fs) _ (g.met.C.PlanCluster.has_output_text fs)) ?
+    (same_lines (g.C.Cluster.line_text fs) (output_text fs) _ (g.met.C.PlanCluster.has_output_text fs)) (c.as_bytes.ensures.value ∙ report)
     (c.in_ok-run_events.ensures.ok c.in_ok-cluster.ensures.initial) c.write_text.ensures.ok
 
 pub returns-clause-err : goal.returns-clause-err
@@ -39,5 +37,5 @@ returns-clause-err g c =
     let fs = c.args.plan.now.program.functions in
     let report = c.in_ok-text.ensures _ (c.in_ok-run_events.ensures.behind c.in_ok-cluster.ensures.initial) in
     both_front c.write_text.result (g.K.Sink.held c.args.sink.now) (g.K.Sink.held c.run_events.new.sink) (g.K.Sink.held c.write_text.new.sink) _ _ _ _
-    (same_lines (g.C.Cluster.line_text fs) (output_text fs) _ (g.met.C.PlanCluster.has_output_text fs)) (c.as_bytes.ensures.value ∙ c.text.view_is ∙ report)
+    (same_lines (g.C.Cluster.line_text fs) (output_text fs) _ (g.met.C.PlanCluster.has_output_text fs)) (c.as_bytes.ensures.value ∙ report)
     (c.in_ok-run_events.ensures.ok c.in_ok-cluster.ensures.initial) c.write_text.ensures.err
