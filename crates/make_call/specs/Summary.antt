@@ -24,12 +24,17 @@ abbrev pub sum_of : List (List ℕ × Value) → ℤ
 sum_of [] = pos 0
 sum_of (x ∷ xs) = integer_of x.1 +ℤ sum_of xs
 
--- the line `events X records L turns Y ended Z objects O sum S`, of so many events and ordered records and this report
+-- the line `events X records L turns Y ended Z objects O sum S`
+abbrev pub line_of : ℕ → ℕ → ℕ → ℕ → ℕ → ℤ → List ℕ
+line_of count records turns ended objects sum =
+    codes "events " ++ (decimal count ++ (codes " records " ++ (decimal records ++ (codes " turns " ++ (decimal turns
+    ++ (codes " ended " ++ (decimal ended ++ (codes " objects " ++ (decimal objects ++ (codes " sum " ++ (signed_decimal sum
+    ++ codes "\n")))))))))))
+
+-- of so many events and ordered records, and of this report
 abbrev pub summary_line : ℕ → ℕ → Report → List ℕ
 summary_line count records r =
-    codes "events " ++ (decimal count ++ (codes " records " ++ (decimal records ++ (codes " turns " ++ (decimal (length r.turns)
-    ++ (codes " ended " ++ (decimal (length r.results) ++ (codes " objects " ++ (decimal (length r.objects)
-    ++ (codes " sum " ++ (signed_decimal (sum_of r.objects) ++ codes "\n")))))))))))
+    line_of count records (length r.turns) (length r.results) (length r.objects) (sum_of r.objects)
 
 -- that of the run of a plan with no nemeses
 abbrev pub summary_of : Plan → List ℕ

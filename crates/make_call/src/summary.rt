@@ -2,7 +2,7 @@
 
 ghost use Rattle.std.specs.Prelude.{◌≡◌, string_bytes, IfOk, IsTrue};
 ghost use Rattle.boki_model.specs.Plans.{is_plan};
-ghost use Rattle.make_call.specs.Summary.{integer_of, sum_of, summary_line, summary_of};
+ghost use Rattle.make_call.specs.Summary.{integer_of, line_of, sum_of, summary_line, summary_of};
 
 use boki_types::{Plan, Report};
 use engine_gate::NoGate;
@@ -33,22 +33,32 @@ fn sum(objects: &[(Words, Value)]) -> i128
     sum
 }
 
-/// The line of so many events and ordered records and a report.
+/// The line of these numbers.
 fn summary_string(
     alloc: Global,
     count: u64,
     records: u64,
-    report: &Report,
+    turns: usize,
+    ended: usize,
+    objects: usize,
+    sum: i128,
 ) -> Result<String, Memory>
+    ensures { IfOk result (λ s. string_bytes s ≡ line_of count records turns ended objects sum) }
+{
+    Ok(format!(in alloc;
+        "events {count} records {records} turns {turns} ended {ended} objects {objects} sum {sum}\n"
+    )?)
+}
+
+/// The line of so many events and ordered records and a report.
+fn summarize(alloc: Global, count: u64, records: u64, report: &Report) -> Result<String, Memory>
     ensures { IfOk result (λ s. string_bytes s ≡ summary_line count records report.now) }
 {
     let turns = report.turns.len();
     let ended = report.results.len();
     let objects = report.objects.len();
     let sum = sum(report.objects.as_slice());
-    Ok(format!(in alloc;
-        "events {count} records {records} turns {turns} ended {ended} objects {objects} sum {sum}\n"
-    )?)
+    summary_string(alloc, count, records, turns, ended, objects, sum)
 }
 
 /// Runs a plan on a new cluster with no nemeses, without making a line of its events, and tells what has come of it in one.
@@ -65,5 +75,5 @@ pub(crate) fn run_summary<C: PlanCluster + Drop, R: Threads + Sync>(
     let records = cluster.log_length();
     let report = cluster.report(plan)?;
     drop(cluster);
-    summary_string(alloc, count, records, &report)
+    summarize(alloc, count, records, &report)
 }

@@ -1,6 +1,6 @@
 -- A run that ends before it has its plan, and one that is exactly once.
-use Rattle.std.proofs.Common.{◌≡◌, ◌≢◌, ℕ, Bool, List, [], Option, Some, None, Result, Ok, Err, refl, sym, subst}
-use Rattle.std.specs.Prelude.{IfSome, IsTrue}
+use Rattle.std.proofs.Common.{◌≡◌, ◌≢◌, ℕ, Bool, List, [], Option, Some, None, Result, Ok, Err, refl, subst}
+use Rattle.std.specs.Prelude.{IfSome}
 use Rattle.lb_base.proofs.DeviceLemmas.{AppendsPrefix-none}
 use Rattle.boki_types.specs.declared.plan.Plan.{Plan}
 use Rattle.line_text.specs.declared.fault.TextFault.{TextFault}
@@ -8,11 +8,9 @@ use Rattle.line_text.specs.declared.fault.TextFault.TheVariants as faults
 use Rattle.plan_lang.specs.Texts.{plan_of, plan_of_lines}
 use Rattle.plan_lang.proofs.PlansInLimits.{parsed_plan_is_plan}
 use Rattle.nemesis_types.specs.Kept.{NumberedNemesis}
-use Rattle.run_with.specs.Laws.{RunGuarantees}
-use Rattle.run_with.specs.Runs.{run_with}
 use Rattle.run_with.proofs.Laws.{runs_are_exact}
 use Rattle.call_base.specs.declared.status.Status.{Status}
-use Rattle.call_base.specs.declared.status.Status.TheVariants.{Done, Refused, Usage, ReadFault, WriteFault, Memory}
+use Rattle.call_base.specs.declared.status.Status.TheVariants.{Done, Refused, Usage, Memory}
 use Rattle.call_base.specs.Due.{Due, Meets, due, due_by, within}
 use Rattle.call_base.proofs.DueLemmas.{ended_is}
 use Rattle.command_line.specs.declared.request.With.{With}
@@ -23,12 +21,6 @@ pub ended_plan : (s : Status) (o old new : Option (List ℕ)) → IfSome o (λ t
     → IfSome o (λ text. (f : Plan → Due) → Meets s (due_by f (plan_of text)) old new)
 ended_plan s None old new h = tt
 ended_plan s (Some text) old new h = λ f. ended_is 1048576 f plan_of_lines s (Some text) old new h
-
--- what is due on the plan that was read is due on the text
-pub due_on_plan : (s : Status) (o old new : Option (List ℕ)) (f : Plan → Due) (plan : Plan) (rest : Option (List ℕ)) → IfSome o (λ text. (plan_of text ≡ Ok plan) × (rest ≡ Some []))
-    → Meets s (f plan) old new → IfSome o (λ text. Meets s (due_by f (plan_of text)) old new)
-due_on_plan s None old new f plan rest h m = tt
-due_on_plan s (Some text) old new f plan rest h m = let P : Result Plan TextFault → Type 0 = λ r. Meets s (due_by f r) old new in subst P (sym h.0) m
 
 -- the laws hold of each plan that a text spells
 pub laws_of_text : (kept : List NumberedNemesis) (text : List ℕ) → RunsByLaws kept text
