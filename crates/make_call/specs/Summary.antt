@@ -25,11 +25,16 @@ sum_of [] = pos 0
 sum_of (x ∷ xs) = integer_of x.1 +ℤ sum_of xs
 
 -- the line `events X records L turns Y ended Z objects O sum S`
+abbrev pub log_part : ℕ → ℕ → ℕ → List ℕ
+log_part count records turns =
+    codes "events " ++ (decimal count ++ (codes " records " ++ (decimal records ++ (codes " turns " ++ decimal turns))))
+
+abbrev pub result_part : ℕ → ℕ → ℤ → List ℕ
+result_part ended objects sum =
+    codes " ended " ++ (decimal ended ++ (codes " objects " ++ (decimal objects ++ (codes " sum " ++ (signed_decimal sum ++ codes "\n")))))
+
 abbrev pub line_of : ℕ → ℕ → ℕ → ℕ → ℕ → ℤ → List ℕ
-line_of count records turns ended objects sum =
-    codes "events " ++ (decimal count ++ (codes " records " ++ (decimal records ++ (codes " turns " ++ (decimal turns
-    ++ (codes " ended " ++ (decimal ended ++ (codes " objects " ++ (decimal objects ++ (codes " sum " ++ (signed_decimal sum
-    ++ codes "\n")))))))))))
+line_of count records turns ended objects sum = log_part count records turns ++ result_part ended objects sum
 
 -- of so many events and ordered records, and of this report
 abbrev pub summary_line : ℕ → ℕ → Report → List ℕ

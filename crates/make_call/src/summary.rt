@@ -2,7 +2,7 @@
 
 ghost use Rattle.std.specs.Prelude.{◌≡◌, string_bytes, IfOk, IsTrue};
 ghost use Rattle.boki_model.specs.Plans.{is_plan};
-ghost use Rattle.make_call.specs.Summary.{integer_of, line_of, sum_of, summary_line, summary_of};
+ghost use Rattle.make_call.specs.Summary.{integer_of, line_of, log_part, result_part, sum_of, summary_line, summary_of};
 
 use boki_types::{Plan, Report};
 use engine_gate::NoGate;
@@ -33,8 +33,22 @@ fn sum(objects: &[(Words, Value)]) -> i128
     sum
 }
 
+/// The line as far as it tells of the log.
+fn log_string(alloc: Global, count: u64, records: u64, turns: usize) -> Result<String, Memory>
+    ensures { IfOk result (λ s. string_bytes s ≡ log_part count records turns) }
+{
+    Ok(format!(in alloc; "events {count} records {records} turns {turns}")?)
+}
+
+/// The rest of the line: what has come of it.
+fn result_string(alloc: Global, ended: usize, objects: usize, sum: i128) -> Result<String, Memory>
+    ensures { IfOk result (λ s. string_bytes s ≡ result_part ended objects sum) }
+{
+    Ok(format!(in alloc; " ended {ended} objects {objects} sum {sum}\n")?)
+}
+
 /// The line of these numbers.
-fn summary_string(
+fn line_string(
     alloc: Global,
     count: u64,
     records: u64,
@@ -45,9 +59,10 @@ fn summary_string(
 ) -> Result<String, Memory>
     ensures { IfOk result (λ s. string_bytes s ≡ line_of count records turns ended objects sum) }
 {
-    Ok(format!(in alloc;
-        "events {count} records {records} turns {turns} ended {ended} objects {objects} sum {sum}\n"
-    )?)
+    let mut line = log_string(alloc, count, records, turns)?;
+    let rest = result_string(alloc, ended, objects, sum)?;
+    line.push_str(rest.as_str())?;
+    Ok(line)
 }
 
 /// The line of so many events and ordered records and a report.
@@ -58,7 +73,7 @@ fn summarize(alloc: Global, count: u64, records: u64, report: &Report) -> Result
     let ended = report.results.len();
     let objects = report.objects.len();
     let sum = sum(report.objects.as_slice());
-    summary_string(alloc, count, records, turns, ended, objects, sum)
+    line_string(alloc, count, records, turns, ended, objects, sum)
 }
 
 /// Runs a plan on a new cluster with no nemeses, without making a line of its events, and tells what has come of it in one.
