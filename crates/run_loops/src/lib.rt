@@ -5,9 +5,11 @@ mod cluster;
 mod lines;
 mod observation;
 mod one;
+mod plain;
 mod rounds;
 mod running;
 mod whole;
 
 pub use cluster::Cluster;
+pub use plain::apply_plan;
 pub use whole::run_events;

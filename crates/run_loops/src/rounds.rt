@@ -11,20 +11,26 @@ ghost use Rattle.run_with.specs.Written.{SinkTook, SinkTookPrefix};
 use crate::cluster::Cluster;
 use crate::one::{do_added, do_planned};
 use boki_types::{Event, Plan};
+use engine_gate::Gate;
 use lb_base::{PutFault, Sink};
 use nemesis::{Kept, ask_at, drop_spent};
 use nemesis_types::Seen;
+use std::thread::Threads;
 
 /// Asks the nemesis at an index, and does what it gives.
-fn ask_nemesis<C: Cluster, K: Sink>(
+fn ask_nemesis<C: Cluster, R: Threads + Sync, G: Gate + Sync, K: Sink>(
+    rt: &R,
     cluster: &mut C,
     plan: &Plan,
     seen: &Seen,
     at: usize,
     kept: &mut Vec<Kept>,
+    gate: &G,
     sink: &mut K,
 ) -> Result<(), PutFault>
-    requires { at < vec_len kept.old }
+    requires some { at < vec_len kept.old }
+    requires plan { C.is_of_plan cluster.old plan.now }
+    ensures plan { C.is_of_plan cluster.new plan.now }
     ensures many { OnOk result (vec_len kept.new ≡ vec_len kept.old) }
     ensures ok { OnOk result ((m : Machine) → C.stands cluster.old plan.now.setup plan.now.program.functions m
         → SinkTook (C.line_text plan.now.program.functions) (C.stands cluster.new plan.now.setup plan.now.program.functions)
@@ -38,17 +44,23 @@ fn ask_nemesis<C: Cluster, K: Sink>(
     ensures later { K.faults sink.old ≤ K.faults sink.new }
 {
     let (number, answer) = ask_at(kept, at, seen);
-    do_added(cluster, plan, seen.event, number, &answer, kept, sink)
+    do_added(
+        rt, cluster, plan, seen.event, number, &answer, kept, gate, sink,
+    )
 }
 
 /// Asks each nemesis once, in order, and drops those that are spent then.
-fn ask_all<C: Cluster, K: Sink>(
+fn ask_all<C: Cluster, R: Threads + Sync, G: Gate + Sync, K: Sink>(
+    rt: &R,
     cluster: &mut C,
     plan: &Plan,
     seen: &Seen,
     kept: &mut Vec<Kept>,
+    gate: &G,
     sink: &mut K,
 ) -> Result<(), PutFault>
+    requires plan { C.is_of_plan cluster.old plan.now }
+    ensures plan { C.is_of_plan cluster.new plan.now }
     ensures ok { OnOk result ((m : Machine) → C.stands cluster.old plan.now.setup plan.now.program.functions m
         → SinkTook (C.line_text plan.now.program.functions) (C.stands cluster.new plan.now.setup plan.now.program.functions)
         (ask_from plan.now.setup plan.now.program.functions seen.now (vec_len kept.old) 0 (state m (map (λ b. numbered_nemesis b.0 (automaton b.1)) kept.old.items)))
@@ -62,22 +74,26 @@ fn ask_all<C: Cluster, K: Sink>(
 {
     let mut at = 0;
     'turns: for _ in 0..kept.len() {
-        ask_nemesis(cluster, plan, seen, at, kept, sink)?;
+        ask_nemesis(rt, cluster, plan, seen, at, kept, gate, sink)?;
         at = drop_spent(kept, at);
     }
     Ok(())
 }
 
 /// Does an event of the plan, and asks each nemesis behind it.
-pub(crate) fn do_round<C: Cluster, K: Sink>(
+pub(crate) fn do_round<C: Cluster, R: Threads + Sync, G: Gate + Sync, K: Sink>(
+    rt: &R,
     cluster: &mut C,
     plan: &Plan,
     n: u64,
     event: &Event,
     kept: &mut Vec<Kept>,
+    gate: &G,
     sink: &mut K,
 ) -> Result<(), PutFault>
-    requires { IsTrue (is_event plan.now.setup plan.now.program.functions event.now) }
+    requires valid { IsTrue (is_event plan.now.setup plan.now.program.functions event.now) }
+    requires plan { C.is_of_plan cluster.old plan.now }
+    ensures plan { C.is_of_plan cluster.new plan.now }
     ensures ok { OnOk result ((m : Machine) → C.stands cluster.old plan.now.setup plan.now.program.functions m
         → SinkTook (C.line_text plan.now.program.functions) (C.stands cluster.new plan.now.setup plan.now.program.functions)
         (round plan.now.setup plan.now.program.functions n event.now (state m (map (λ b. numbered_nemesis b.0 (automaton b.1)) kept.old.items)))
@@ -89,6 +105,6 @@ pub(crate) fn do_round<C: Cluster, K: Sink>(
     ensures fault { IsErrOf result PutFault.Fault → CountRose (K.faults sink.old) (K.faults sink.new) }
     ensures later { K.faults sink.old ≤ K.faults sink.new }
 {
-    let seen = do_planned(cluster, plan, n, event, kept, sink)?;
-    ask_all(cluster, plan, &seen, kept, sink)
+    let seen = do_planned(rt, cluster, plan, n, event, kept, gate, sink)?;
+    ask_all(rt, cluster, plan, &seen, kept, gate, sink)
 }

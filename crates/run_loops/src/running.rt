@@ -12,20 +12,26 @@ ghost use Rattle.run_with.specs.Written.{SinkTook, SinkTookPrefix};
 use crate::cluster::Cluster;
 use crate::rounds::do_round;
 use boki_types::{Event, Item, Plan};
+use engine_gate::Gate;
 use lb_base::{PutFault, Sink};
 use nemesis::Kept;
+use std::thread::Threads;
 
 /// Does events one after another, of which the first has the number `n`.
-fn run_list<C: Cluster, K: Sink>(
+fn run_list<C: Cluster, R: Threads + Sync, G: Gate + Sync, K: Sink>(
+    rt: &R,
     cluster: &mut C,
     plan: &Plan,
     n: &mut u64,
     events: &[Event],
     kept: &mut Vec<Kept>,
+    gate: &G,
     sink: &mut K,
 ) -> Result<(), PutFault>
     requires valid { AllByRecursion (λ e. IsTrue (is_event plan.now.setup plan.now.program.functions e)) (events.now) }
     requires room { n.old + length (events.now) < 2 ^ 64 }
+    requires plan { C.is_of_plan cluster.old plan.now }
+    ensures plan { C.is_of_plan cluster.new plan.now }
     ensures number { OnOk result (n.new ≡ n.old + length (events.now)) }
     ensures ok { OnOk result ((m : Machine) → C.stands cluster.old plan.now.setup plan.now.program.functions m
         → SinkTook (C.line_text plan.now.program.functions) (C.stands cluster.new plan.now.setup plan.now.program.functions)
@@ -39,24 +45,28 @@ fn run_list<C: Cluster, K: Sink>(
     ensures later { K.faults sink.old ≤ K.faults sink.new }
 {
     'events: for event in events {
-        do_round(cluster, plan, *n, event, kept, sink)?;
+        do_round(rt, cluster, plan, *n, event, kept, gate, sink)?;
         *n += 1;
     }
     Ok(())
 }
 
 /// Does events so often.
-fn run_repeat<C: Cluster, K: Sink>(
+fn run_repeat<C: Cluster, R: Threads + Sync, G: Gate + Sync, K: Sink>(
+    rt: &R,
     cluster: &mut C,
     plan: &Plan,
     n: &mut u64,
     times: u32,
     events: &[Event],
     kept: &mut Vec<Kept>,
+    gate: &G,
     sink: &mut K,
 ) -> Result<(), PutFault>
     requires valid { AllByRecursion (λ e. IsTrue (is_event plan.now.setup plan.now.program.functions e)) (repeat_events times events.now) }
     requires room { n.old + length (repeat_events times events.now) < 2 ^ 64 }
+    requires plan { C.is_of_plan cluster.old plan.now }
+    ensures plan { C.is_of_plan cluster.new plan.now }
     ensures number { OnOk result (n.new ≡ n.old + length (repeat_events times events.now)) }
     ensures ok { OnOk result ((m : Machine) → C.stands cluster.old plan.now.setup plan.now.program.functions m
         → SinkTook (C.line_text plan.now.program.functions) (C.stands cluster.new plan.now.setup plan.now.program.functions)
@@ -70,22 +80,26 @@ fn run_repeat<C: Cluster, K: Sink>(
     ensures later { K.faults sink.old ≤ K.faults sink.new }
 {
     'times: for _ in 0..times {
-        run_list(cluster, plan, n, events, kept, sink)?;
+        run_list(rt, cluster, plan, n, events, kept, gate, sink)?;
     }
     Ok(())
 }
 
 /// Does an item of a plan.
-fn run_item<C: Cluster, K: Sink>(
+fn run_item<C: Cluster, R: Threads + Sync, G: Gate + Sync, K: Sink>(
+    rt: &R,
     cluster: &mut C,
     plan: &Plan,
     n: &mut u64,
     item: &Item,
     kept: &mut Vec<Kept>,
+    gate: &G,
     sink: &mut K,
 ) -> Result<(), PutFault>
     requires valid { AllByRecursion (λ e. IsTrue (is_event plan.now.setup plan.now.program.functions e)) (events_of item.now) }
     requires room { n.old + length (events_of item.now) < 2 ^ 64 }
+    requires plan { C.is_of_plan cluster.old plan.now }
+    ensures plan { C.is_of_plan cluster.new plan.now }
     ensures number { OnOk result (n.new ≡ n.old + length (events_of item.now)) }
     ensures ok { OnOk result ((m : Machine) → C.stands cluster.old plan.now.setup plan.now.program.functions m
         → SinkTook (C.line_text plan.now.program.functions) (C.stands cluster.new plan.now.setup plan.now.program.functions)
@@ -99,30 +113,45 @@ fn run_item<C: Cluster, K: Sink>(
     ensures later { K.faults sink.old ≤ K.faults sink.new }
 {
     match item {
-        Item::One(event) => run_list(cluster, plan, n, std::slice::from_ref(event), kept, sink),
+        Item::One(event) => run_list(
+            rt,
+            cluster,
+            plan,
+            n,
+            std::slice::from_ref(event),
+            kept,
+            gate,
+            sink,
+        ),
         Item::Repeat(times, events) => run_repeat(
+            rt,
             cluster,
             plan,
             n,
             *times,
             events.as_slice(),
             kept,
+            gate,
             sink,
         ),
     }
 }
 
 /// Does the items of a plan.
-pub(crate) fn run_items<C: Cluster, K: Sink>(
+pub(crate) fn run_items<C: Cluster, R: Threads + Sync, G: Gate + Sync, K: Sink>(
+    rt: &R,
     cluster: &mut C,
     plan: &Plan,
     n: &mut u64,
     items: &[Item],
     kept: &mut Vec<Kept>,
+    gate: &G,
     sink: &mut K,
 ) -> Result<(), PutFault>
     requires valid { AllByRecursion (λ e. IsTrue (is_event plan.now.setup plan.now.program.functions e)) (events_in items.now) }
     requires room { n.old + length (events_in items.now) < 2 ^ 64 }
+    requires plan { C.is_of_plan cluster.old plan.now }
+    ensures plan { C.is_of_plan cluster.new plan.now }
     ensures number { OnOk result (n.new ≡ n.old + length (events_in items.now)) }
     ensures ok { OnOk result ((m : Machine) → C.stands cluster.old plan.now.setup plan.now.program.functions m
         → SinkTook (C.line_text plan.now.program.functions) (C.stands cluster.new plan.now.setup plan.now.program.functions)
@@ -136,7 +165,7 @@ pub(crate) fn run_items<C: Cluster, K: Sink>(
     ensures later { K.faults sink.old ≤ K.faults sink.new }
 {
     'items: for item in items {
-        run_item(cluster, plan, n, item, kept, sink)?;
+        run_item(rt, cluster, plan, n, item, kept, gate, sink)?;
     }
     Ok(())
 }

@@ -12,17 +12,23 @@ ghost use Rattle.run_with.specs.Written.{SinkTookPrefix, text_of_lines};
 use crate::cluster::Cluster;
 use crate::running::run_items;
 use boki_types::Plan;
+use engine_gate::Gate;
 use lb_base::{PutFault, Sink};
 use nemesis::Kept;
+use std::thread::Threads;
 
 /// Runs a plan with these nemeses, and writes its lines.
-pub fn run_events<C: Cluster, K: Sink>(
+pub fn run_events<C: Cluster, R: Threads + Sync, G: Gate + Sync, K: Sink>(
+    rt: &R,
     cluster: &mut C,
     plan: &Plan,
     mut kept: Vec<Kept>,
+    gate: &G,
     sink: &mut K,
 ) -> Result<(), PutFault>
-    requires { IsTrue (is_plan plan.now) }
+    requires is_plan { IsTrue (is_plan plan.now) }
+    requires plan { C.is_of_plan cluster.old plan.now }
+    ensures plan { C.is_of_plan cluster.new plan.now }
     ensures ok { OnOk result (C.stands cluster.old plan.now.setup plan.now.program.functions (initial_machine plan.now.setup plan.now.objects)
         → Appends (K.held sink.old) (K.held sink.new) (text_of_lines (C.line_text plan.now.program.functions) (run_of plan.now (map (λ b. numbered_nemesis b.0 (automaton b.1)) kept.items)).lines)) }
     ensures behind { OnOk result (C.stands cluster.old plan.now.setup plan.now.program.functions (initial_machine plan.now.setup plan.now.objects)
@@ -36,11 +42,13 @@ pub fn run_events<C: Cluster, K: Sink>(
 {
     let mut n = 1;
     run_items(
+        rt,
         cluster,
         plan,
         &mut n,
         plan.items.as_slice(),
         &mut kept,
+        gate,
         sink,
     )
 }

@@ -14,5 +14,6 @@ invariant-events g l = record {
       (g.K.Sink.held l.fn.sink) (g.K.Sink.held l.sink)
       (λ m'. run_from l.plan.setup l.plan.program.functions l.n (drop l.event-index l.events) (state m' (map (λ b. numbered_nemesis b.0 ((goal.Nemesis-dyn g (b.1.vtable, b.1.value)).automaton b.1.value)) l.kept.items)));
   number : l.n ≡ l.fn.n + l.event-index;
+  of : g.C.Cluster.is_of_plan l.cluster l.plan;
   later : g.K.Sink.faults l.fn.sink ≤ g.K.Sink.faults l.sink;
 }

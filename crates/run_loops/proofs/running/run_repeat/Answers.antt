@@ -13,11 +13,12 @@ times-init g c =
       going = λ m s. run_start _ _ _ _ _ _ _ (repeat_events (c.args.times - 0) c.args.events.now) m _ s (ap (λ k. repeat_events k c.args.events.now) e);
       valid = subst (AllByRecursion (λ x. IsTrue (is_event c.args.plan.now.setup c.args.plan.now.program.functions x))) (ap (λ k. repeat_events k c.args.events.now) (sym e)) c.requires.valid;
       number = ap (λ k. c.args.n.now + length (repeat_events k c.args.events.now)) e;
+      of = c.requires.plan;
       later = omega arith;
     }
 
 pub run_list-requires-clause-valid : goal.run_list-requires-clause-valid
-run_list-requires-clause-valid g c =
+run_list-requires-clause-valid g c κs within =
     let left = c.args.times - (c.times.counter + 1) in
     let e : c.args.times - c.times.counter ≡ suc left = omega arith in
     (each_parts (λ e. IsTrue (is_event c.args.plan.now.setup c.args.plan.now.program.functions e)) c.args.events.now (repeat_events left c.args.events.now) (repeat_events (c.args.times - c.times.counter) c.args.events.now)
@@ -48,5 +49,6 @@ times-preserved g c =
       going = λ m s. behind_step _ _ _ _ _ _ _ _ _ (repeat_events (c.args.times - c.times.counter) c.args.events.now) c.args.events.now (repeat_events left c.args.events.now) c.times.n _ _ _ more c.in_ok-run_list.ensures.number (c.times.invariant.going m s) c.in_ok-run_list.ensures.ok;
       valid = (each_parts (λ e. IsTrue (is_event c.args.plan.now.setup c.args.plan.now.program.functions e)) c.args.events.now (repeat_events left c.args.events.now) (repeat_events (c.args.times - c.times.counter) c.args.events.now) more c.times.invariant.valid).1;
       number = omega (arith, long, c.times.invariant.number, c.in_ok-run_list.ensures.number);
+      of = c.in_ok-run_list.ensures.plan;
       later = omega (arith, c.in_ok-run_list.ensures.later);
     }

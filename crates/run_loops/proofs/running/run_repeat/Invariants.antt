@@ -18,5 +18,6 @@ invariant-times g l = record {
       (λ m'. run_from l.plan.setup l.plan.program.functions l.n (repeat_events (l.times - l.counter) l.events) (state m' (map (λ b. numbered_nemesis b.0 ((goal.Nemesis-dyn g (b.1.vtable, b.1.value)).automaton b.1.value)) l.kept.items)));
   valid : AllByRecursion (λ e. IsTrue (is_event l.plan.setup l.plan.program.functions e)) (repeat_events (l.times - l.counter) l.events);
   number : l.n + length (repeat_events (l.times - l.counter) l.events) ≡ l.fn.n + length (repeat_events l.times l.events);
+  of : g.C.Cluster.is_of_plan l.cluster l.plan;
   later : g.K.Sink.faults l.fn.sink ≤ g.K.Sink.faults l.sink;
 }
