@@ -1,5 +1,5 @@
 -- Which answers are right for which live text. The order of the appends of several workers is free, so this is a relation.
-use Rattle.std.specs.Prelude.{◌≡◌, ℕ, ◌+◌, ◌<◌, ◌≤◌, ◌==◌, cond, List, [], ◌∷◌, length, take, map, reverse, Option, None, option_map}
+use Rattle.std.specs.Prelude.{◌≡◌, ℕ, ◌+◌, ◌<◌, ◌≤◌, ◌==◌, cond, List, [], ◌∷◌, ◌++◌, length, take, map, reverse, Option, Some, None, option_map}
 use Rattle.std.specs.List.{AllByRecursion}
 use Rattle.lb_base.specs.declared.value.Record.{Record}
 use Rattle.lb_base.specs.declared.value.Seqnum.{Seqnum}
@@ -39,35 +39,8 @@ records_of worker seq [] = []
 records_of worker seq (x ∷ xs) =
     cond (x.0 == worker) ((seq, x.1) ∷ records_of worker (seq + 1) xs) (records_of worker (seq + 1) xs)
 
-abbrev pub number_of : Option Seqnum → Option ℕ
-number_of seq = option_map (λ s. s.0) seq
-
--- A read has the answer that the first records of the list give, as many as the position says.
-abbrev pub IsReadOf : List Appended → LiveOp → LiveAnswer → Type 0
-IsReadOf list (op.Next tag from) (answer.Next seq p) =
-    (p ≤ length list) × (number_of seq ≡ next tag.0 from.0 (seen_at p list))
-IsReadOf list (op.Prev tag upto) (answer.Prev seq p) =
-    (p ≤ length list) × (number_of seq ≡ prev tag.0 upto.0 (seen_at p list))
-IsReadOf list (op.Count tag) (answer.Count n p) = (p ≤ length list) × (n ≡ count tag.0 (seen_at p list))
-IsReadOf list _ _ = ⊥
-
--- An append has the seqnum of the worker's next record, which is the one that the line says.
-abbrev pub IsAppendOf : ℕ × Record → LiveOp → LiveAnswer → Type 0
-IsAppendOf r (op.Append tags text) (answer.Append seq) = (seq.0 ≡ r.0) × (r.1 ≡ user_record tags text)
-IsAppendOf r _ _ = ⊥
-
--- The answers of a worker are those of what it does, one for each line, and its records are those of its appends, no other.
-abbrev pub AnswersFit : List Appended → List LiveOp → List LiveAnswer → List (ℕ × Record) → Type 0
-AnswersFit list [] [] [] = Unit {0}
-AnswersFit list (op.Append tags text ∷ ops) (a ∷ answers) (r ∷ records) =
-    IsAppendOf r (op.Append tags text) a × AnswersFit list ops answers records
-AnswersFit list (op.Next tag from ∷ ops) (a ∷ answers) records =
-    IsReadOf list (op.Next tag from) a × AnswersFit list ops answers records
-AnswersFit list (op.Prev tag upto ∷ ops) (a ∷ answers) records =
-    IsReadOf list (op.Prev tag upto) a × AnswersFit list ops answers records
-AnswersFit list (op.Count tag ∷ ops) (a ∷ answers) records =
-    IsReadOf list (op.Count tag) a × AnswersFit list ops answers records
-AnswersFit list _ _ _ = ⊥
+abbrev pub seqnum_of : Option ℕ → Option Seqnum
+seqnum_of n = option_map (λ seq. record { 0 = seq }) n
 
 -- the position of a worker, and the seqnum of its last append, behind an answer
 abbrev pub position_after : ℕ → LiveAnswer → ℕ
@@ -80,21 +53,52 @@ abbrev pub append_after : ℕ → LiveAnswer → ℕ
 append_after last (answer.Append seq) = seq.0
 append_after last _ = last
 
+-- what a read is answered at a position; an append is none
+abbrev pub read_at : ℕ → List Appended → LiveOp → Option LiveAnswer
+read_at p list (op.Append tags text) = None
+read_at p list (op.Next tag from) = Some (answer.Next (seqnum_of (next tag.0 from.0 (seen_at p list))) p)
+read_at p list (op.Prev tag upto) = Some (answer.Prev (seqnum_of (prev tag.0 upto.0 (seen_at p list))) p)
+read_at p list (op.Count tag) = Some (answer.Count (count tag.0 (seen_at p list)) p)
+
+-- A read has the answer that the first records of the list give, as many as the position that it names.
+abbrev pub IsReadOf : List Appended → LiveOp → LiveAnswer → Type 0
+IsReadOf list o a = (position_after 0 a ≤ length list) × (read_at (position_after 0 a) list o ≡ Some a)
+
+-- an append is answered with a seqnum
+abbrev pub IsAnswerOf : List Appended → LiveOp → LiveAnswer → Type 0
+IsAnswerOf list (op.Append tags text) (answer.Append seq) = Unit {0}
+IsAnswerOf list o a = IsReadOf list o a
+
+-- each line has its answer, and there are no more
+abbrev pub EachAnswered : List Appended → List LiveOp → List LiveAnswer → Type 0
+EachAnswered list [] [] = Unit {0}
+EachAnswered list (o ∷ ops) (a ∷ answers) = IsAnswerOf list o a × EachAnswered list ops answers
+EachAnswered list _ _ = ⊥
+
+-- the records that the lines append, at the seqnums that are answered
+abbrev pub record_answered : LiveOp → LiveAnswer → List (ℕ × Record)
+record_answered (op.Append tags text) (answer.Append seq) = (seq.0, user_record tags text) ∷ []
+record_answered o a = []
+
+abbrev pub records_answered : List LiveOp → List LiveAnswer → List (ℕ × Record)
+records_answered (o ∷ ops) (a ∷ answers) = record_answered o a ++ records_answered ops answers
+records_answered _ _ = []
+
 -- A position is no less than the one before it and than the last append; an append stands above the position before it.
 abbrev pub IsInOrder : ℕ → ℕ → LiveAnswer → Type 0
 IsInOrder position last (answer.Append seq) = position < seq.0
-IsInOrder position last (answer.Next seq p) = (position ≤ p) × (last ≤ p)
-IsInOrder position last (answer.Prev seq p) = (position ≤ p) × (last ≤ p)
-IsInOrder position last (answer.Count n p) = (position ≤ p) × (last ≤ p)
+IsInOrder position last a = (position ≤ position_after position a) × (last ≤ position_after position a)
 
 abbrev pub AreInOrder : ℕ → ℕ → List LiveAnswer → Type 0
 AreInOrder position last [] = Unit {0}
 AreInOrder position last (a ∷ answers) =
     IsInOrder position last a × AreInOrder (position_after position a) (append_after last a) answers
 
--- The answers of one worker fit the list.
+-- The answers of one worker fit the list: each of its lines has its answer, its records in the list are those of its appends, in
+-- their order and at the seqnums answered, and the positions are in order.
 pub record WorkerFits (worker : ℕ) (lines : List (ℕ × LiveOp)) (list : List Appended) (answers : List LiveAnswer) : Type 0 where
-  pub answered : AnswersFit list (ops_of worker lines) answers (records_of worker 1 list)
+  pub answered : EachAnswered list (ops_of worker lines) answers
+  pub appended : records_of worker 1 list ≡ records_answered (ops_of worker lines) answers
   pub in_order : AreInOrder 0 0 answers
 
 -- So do those of each worker, from this number on.

@@ -1,6 +1,5 @@
 -- What a text comes to on one thread, over a plain list, with one worker after another.
-use Rattle.std.specs.Prelude.{ℕ, zero, suc, ◌+◌, List, [], ◌∷◌, ◌++◌, length, Option, option_map}
-use Rattle.lb_base.specs.declared.value.Seqnum.{Seqnum}
+use Rattle.std.specs.Prelude.{ℕ, zero, suc, ◌+◌, List, [], ◌∷◌, ◌++◌, length}
 use Rattle.boki_model.specs.Live.{live, count}
 use Rattle.boki_model.specs.Reads.{next, prev}
 use Rattle.live_text.specs.declared.answers.LiveAnswer.{LiveAnswer}
@@ -9,10 +8,7 @@ use Rattle.live_text.specs.declared.answers.LiveRan.{LiveRan}
 use Rattle.live_text.specs.declared.text.LiveOp.{LiveOp}
 use Rattle.live_text.specs.declared.text.LiveOp.TheVariants as op
 use Rattle.live_text.specs.declared.text.LiveText.{LiveText}
-use Rattle.live_text.specs.Outputs.{Appended, user_record, log_of, ops_of}
-
-abbrev pub seqnum_of : Option ℕ → Option Seqnum
-seqnum_of n = option_map (λ seq. record { 0 = seq }) n
+use Rattle.live_text.specs.Outputs.{Appended, user_record, log_of, seqnum_of, ops_of}
 
 -- what a line adds to the list, and what it is answered
 abbrev pub added_by : ℕ → LiveOp → List Appended

@@ -10,7 +10,7 @@ use Rattle.live_text.specs.declared.answers.LiveAnswer.{LiveAnswer}
 use Rattle.live_text.specs.declared.answers.LiveAnswer.TheVariants as answer
 use Rattle.live_text.specs.declared.text.LiveOp.{LiveOp}
 use Rattle.live_text.specs.declared.text.LiveOp.TheVariants as op
-use Rattle.live_text.specs.Outputs.{Appended, user_record, IsReadOf, AnswersFit, AreInOrder, position_after, append_after}
+use Rattle.live_text.specs.Outputs.{Appended, user_record, IsReadOf, EachAnswered, records_answered, AreInOrder, position_after, append_after}
 
 -- an engine's appends by their seqnums
 abbrev pub with_seqnums : List (ℕ × Appended) → List (ℕ × Record)
@@ -41,10 +41,7 @@ HasRead e f o a = HasLooked e f × (position_after 0 a ≡ f.position) × IsRead
 
 abbrev pub DoesLine : Engine → Engine → LiveOp → LiveAnswer → Type 0
 DoesLine e f (op.Append tags text) (answer.Append seq) = (e.position < seq.0) × HasAppended e f (user_record tags text) seq
-DoesLine e f (op.Append tags text) _ = ⊥
-DoesLine e f (op.Next tag from) a = HasRead e f (op.Next tag from) a
-DoesLine e f (op.Prev tag upto) a = HasRead e f (op.Prev tag upto) a
-DoesLine e f (op.Count tag) a = HasRead e f (op.Count tag) a
+DoesLine e f o a = HasRead e f o a
 
 -- a line without an answer: after Behind there is one append more, whose seqnum isn't above the position
 abbrev pub HasOneMore : List (ℕ × Appended) → Seqnum → List (ℕ × Appended) → Type 0
@@ -88,8 +85,9 @@ pub record Worked (ops : List LiveOp) (answers : List LiveAnswer) (e f : Engine)
   pub front : List LiveOp
   pub rest : List LiveOp
   pub in_front : ops ≡ front ++ rest
+  pub answered : EachAnswered f.seen front answers
   pub own : List (ℕ × Appended)
-  pub answered : AnswersFit f.seen front answers (with_seqnums own)
+  pub appended : with_seqnums own ≡ records_answered front answers
   pub appends : HasAppends stop (e.appends ++ own) f.appends
   pub in_order : AreInOrder e.position 0 answers
   pub within : position_behind e.position answers ≤ f.position
