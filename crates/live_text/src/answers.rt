@@ -17,7 +17,7 @@ pub enum LiveAnswer {
 
 /// The list in the end, each record with the number of the worker that appended it, and the answers of each worker, from worker 1
 /// on.
-#[derive(Debug, Drop, PartialEq, Eq)]
+#[derive(Debug, Drop)]
 pub struct LiveRan {
     pub list: List<(u32, Record)>,
     pub answers: List<List<LiveAnswer>>,

@@ -15,7 +15,7 @@ use line_text::{
 use std::alloc::Global;
 
 /// How many workers there are, once that line is read, and what was read behind it.
-#[derive(Debug, Drop)]
+#[derive(Drop)]
 pub struct LiveDraft {
     pub workers: Option<u32>,
     pub lines: List<(u32, LiveOp)>,

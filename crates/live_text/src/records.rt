@@ -8,7 +8,7 @@ use std::alloc::Global;
 
 /// A record with these tags and no condition, that holds a text.
 pub fn record_of(alloc: Global, tags: &[Tag], text: &Words) -> Result<Record, Memory>
-    ensures { IfOk result (λ record. record ≡ user_record tags.now text.now) }
+    ensures { IfOk result (λ r. r ≡ user_record tags.now text.now) }
 {
     Ok(Record {
         tags: List::from_slice(alloc, tags)?,

@@ -16,7 +16,7 @@ pub enum LiveOp {
 }
 
 /// How many workers there are, and what they do, in the order of the text: each line with the number of its worker, from 1.
-#[derive(Debug, Drop, PartialEq, Eq)]
+#[derive(Debug, Drop)]
 pub struct LiveText {
     pub workers: u32,
     pub lines: List<(u32, LiveOp)>,
