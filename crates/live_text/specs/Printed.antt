@@ -4,7 +4,6 @@ use Rattle.std.specs.Fmt.{decimal}
 use Rattle.std.specs.String.{string_bytes}
 use Rattle.std.specs.declared.string.String.{String}
 use Rattle.lb_base.specs.declared.value.Seqnum.{Seqnum}
-use Rattle.lb_base.specs.declared.value.Tag.{Tag}
 use Rattle.lb_base.specs.Quoted.{quoted}
 use Rattle.script_lang.specs.Printed.{◌&◌}
 use Rattle.plan_lang.specs.Printed.{tags_text}

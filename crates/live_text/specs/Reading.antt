@@ -1,5 +1,5 @@
 -- The live text that a text spells, line by line.
-use Rattle.std.specs.Prelude.{◌≡◌, ℕ, List, [], ◌∷◌, ◌++◌, length, Option, Some, None, option_map, Result, Ok, Err, nat_lt, if◌then◌else◌, bytes_eq, codes}
+use Rattle.std.specs.Prelude.{ℕ, List, [], ◌∷◌, ◌++◌, length, Option, Some, None, option_map, Result, Ok, Err, nat_lt, if◌then◌else◌, bytes_eq, codes}
 use Rattle.boki_types.specs.declared.kind.Kind.{Kind}
 use Rattle.boki_types.specs.declared.kind.Kind.TheVariants as kind
 use Rattle.line_text.specs.declared.checked.Checked.{Checked}

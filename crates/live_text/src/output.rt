@@ -16,14 +16,14 @@ fn push_record(
     out: &mut String,
     seq: u64,
     worker: u32,
-    record: &Record,
+    rec: &Record,
 ) -> Result<(), Memory>
-    ensures { OnOk result (Appends out.old (record_line seq (worker, record.now)) out.new) }
+    ensures { OnOk result (Appends out.old (record_line seq (worker, rec.now)) out.new) }
 {
-    let Ok(text) = str::from_utf8(record.bytes.as_slice()) else {
+    let Ok(text) = str::from_utf8(rec.bytes.as_slice()) else {
         return Err(Memory);
     };
-    let tags = tags_string(alloc, record.tags.as_slice())?;
+    let tags = tags_string(alloc, rec.tags.as_slice())?;
     let text = Quoted(text);
     Ok(write!(out, "{seq} {worker} {tags} {text}\n")?)
 }
@@ -54,12 +54,7 @@ fn push_found(out: &mut String, seq: Option<Seqnum>) -> Result<(), Memory>
 }
 
 /// Adds the line of a read that asked for a record, behind its word, which has a space behind it.
-fn push_read(
-    out: &mut String,
-    word: &str,
-    seq: Option<Seqnum>,
-    position: u64,
-) -> Result<(), Memory>
+fn push_read(out: &mut String, word: &str, seq: Option<Seqnum>, position: u64) -> Result<(), Memory>
     ensures { OnOk result (Appends out.old (read_line word.now (found_text seq) position) out.new) }
 {
     out.push_str(word)?;

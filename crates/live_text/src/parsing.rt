@@ -1,6 +1,6 @@
 //! The live text that bytes spell.
 
-ghost use Rattle.std.specs.Prelude.{◌≡◌, ◌≤◌, IfOk};
+ghost use Rattle.std.specs.Prelude.{◌≡◌, ◌≤◌, Some, IfOk};
 ghost use Rattle.line_text.specs.Faults.{Gives};
 ghost use Rattle.live_text.specs.Reading.{text_at_end, live_text_of};
 
@@ -15,7 +15,8 @@ const MOST_BYTES: usize = 1048576;
 
 /// The live text of lines that were read to the end of their text, behind the line before this number.
 fn finish(number: u64, draft: LiveDraft) -> Result<LiveText, TextFault>
-    ensures { Gives result (text_at_end number draft) }
+    ensures text { Gives result (text_at_end number draft) }
+    ensures workers { IfOk result (λ t. Some t.workers ≡ draft.workers) }
 {
     let LiveDraft { workers, lines } = draft;
     match workers {
@@ -36,7 +37,8 @@ fn finish(number: u64, draft: LiveDraft) -> Result<LiveText, TextFault>
 /// the number of tags is out of range. Where no line has a fault, `End` comes where there is no line `live W`, with the number
 /// behind the last line.
 pub fn parse_live(alloc: Global, bytes: &[u8]) -> Result<LiveText, TextFault>
-    ensures { Gives result (live_text_of bytes.now) }
+    ensures text { Gives result (live_text_of bytes.now) }
+    ensures workers { IfOk result (λ t. (1 ≤ t.workers) × (t.workers ≤ 16)) }
 {
     if bytes.len() > MOST_BYTES {
         return Err(TextFault::Refused {

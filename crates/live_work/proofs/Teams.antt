@@ -1,6 +1,7 @@
 -- The workers of a log, and what their answers are to its list.
-use Rattle.std.proofs.Common.{◌≡◌, ℕ, zero, suc, ◌+◌, ◌<◌, ◌≤◌, ◌==◌, cond, Bool, true, false, List, [], ◌∷◌, ◌++◌, length, get_or, subst, All, refl, sym, ap, ◌∙◌, arith}
+use Rattle.std.proofs.Common.{◌≡◌, ℕ, zero, suc, ◌+◌, ◌<◌, ◌≤◌, ◌==◌, cond, Bool, true, false, List, [], ◌∷◌, ◌++◌, length, get_or, Option, Some, Result, Ok, Err, subst, All, refl, sym, ap, ◌∙◌, arith}
 use Rattle.std.proofs.lemmas.List.{append-nil}
+use Rattle.std.specs.Prelude.{IfOk}
 use mathlib.Core.List.{IsPrefix}
 use Rattle.lb_base.specs.declared.value.Record.{Record}
 use Rattle.live_log.specs.declared.fault.Stop.{Stop}
@@ -9,8 +10,10 @@ use Rattle.live_log.specs.Engines.{Engine}
 use Rattle.live_log.specs.Closing.{appends_in, new_engine, NewEngines, HasAllAppends, EachByEngine}
 use Rattle.live_log.proofs.Lists.{all_tail}
 use Rattle.live_text.specs.declared.answers.LiveAnswer.{LiveAnswer}
+use Rattle.live_text.specs.declared.answers.LiveRan.{LiveRan}
 use Rattle.live_text.specs.declared.text.LiveOp.{LiveOp}
-use Rattle.live_text.specs.Outputs.{Appended, ops_of, records_of, EachAnswered, records_answered, AreInOrder, WorkerFits, EachFits, EachByWorker}
+use Rattle.live_text.specs.declared.text.LiveText.{LiveText}
+use Rattle.live_text.specs.Outputs.{Appended, ops_of, records_of, EachAnswered, records_answered, AreInOrder, WorkerFits, EachFits, EachByWorker, IsRunOf}
 use Rattle.live_work.specs.declared.worker.LiveWorker.{LiveWorker}
 use Rattle.live_work.specs.Teams.{engines_of, answers_of, HasWorked, EachWorked}
 use Rattle.live_work.specs.Worked.{with_seqnums, HasAppends, Worked}
@@ -94,3 +97,19 @@ module _ {J D : Type 0} where
     worker_fits from lines list w.answers v.engine w.engine w.stop new.0 h.0.worked (ran 0 w (omega arith)) mine.0 mine.1,
     each_fits refusals (from + 1) lines list vs ws new.1 h.1 (all_tail (λ (x : LiveWorker J D). x.stop ≡ Ran) (w ∷ ws) ws w refl ran) mine.2,
   )
+
+  -- the list and the answers of workers that ran are right for their text
+  pub run_is_right : (refusals : D → ℕ) (n : ℕ) (text : LiveText) (vs ws : List (LiveWorker J D)) (x : LiveRan) → n ≡ text.workers → length vs ≡ text.workers → NewEngines 1 (engines_of vs)
+      → EachWorked refusals text.lines vs ws → All (λ (w : LiveWorker J D). w.stop ≡ Ran) ws → HasAllAppends x.list (engines_of ws) → EachByEngine n x.list → x.answers ≡ answers_of ws → IsRunOf text x
+  run_is_right refusals n text vs ws x count size new worked ran mine by is = record {
+    workers = ap (λ (a : List (List LiveAnswer)). length a) is ∙ length_answers ws ∙ same_length refusals text.lines vs ws worked ∙ size;
+    by_workers = by_workers text.workers x.list (subst (λ (m : ℕ). EachByEngine m x.list) count by);
+    fits = subst (λ (a : List (List LiveAnswer)). EachFits 1 text.lines x.list a) (sym is) (each_fits refusals 1 text.lines x.list vs ws new worked ran mine);
+  }
+
+pub ok_is : {X E : Type 0} (r : Result X E) (x : X) (P : X → Type 0) → r ≡ Ok x → IfOk r P → P x
+ok_is r x P e h = subst (λ (z : Result _ _). IfOk z P) e h
+
+pub some_ran : {E : Type 0} (r : Result (Option LiveRan) E) (P Q : LiveRan → Type 0) → ((x : LiveRan) → P x → Q x) → IfOk r (λ o. (x : LiveRan) → o ≡ Some x → P x) → IfOk r (λ o. (x : LiveRan) → o ≡ Some x → Q x)
+some_ran (Ok o) P Q f h = λ x e. f x (h x e)
+some_ran (Err e) P Q f h = tt

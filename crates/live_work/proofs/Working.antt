@@ -1,5 +1,6 @@
 -- A worker goes from line to line.
-use Rattle.std.proofs.Common.{◌≡◌, ℕ, ◌+◌, ◌<◌, ◌≤◌, List, [], ◌∷◌, ◌++◌, length, refl, sym, ap, ◌∙◌, arith, length-append, append_assoc}
+use Rattle.std.proofs.Common.{◌≡◌, ℕ, ◌+◌, ◌<◌, ◌≤◌, ◌==◌, Bool, true, false, cond, List, [], ◌∷◌, ◌++◌, length, drop, refl, sym, ap, ◌∙◌, arith, length-append, append_assoc}
+use Rattle.std.proofs.lemmas.Grind.{common_steps}
 use Rattle.std.proofs.lemmas.List.{append-nil}
 use mathlib.Core.List.{IsPrefix}
 use Rattle.lb_base.specs.declared.value.Record.{Record}
@@ -13,13 +14,18 @@ use Rattle.live_text.specs.declared.answers.LiveAnswer.{LiveAnswer}
 use Rattle.live_text.specs.declared.answers.LiveAnswer.TheVariants as answer
 use Rattle.live_text.specs.declared.text.LiveOp.{LiveOp}
 use Rattle.live_text.specs.declared.text.LiveOp.TheVariants as op
-use Rattle.live_text.specs.Outputs.{Appended, user_record, IsAnswerOf, EachAnswered, record_answered, records_answered, AreInOrder, position_after, append_after}
-use Rattle.live_work.specs.Worked.{with_seqnums, HasAppended, HasRead, DoesLine, StopsAt, position_behind, append_behind, Worked}
+use Rattle.std.specs.Prelude.{MatchBool}
+use Rattle.live_text.specs.Outputs.{Appended, user_record, ops_of, IsAnswerOf, EachAnswered, record_answered, records_answered, AreInOrder, position_after, append_after}
+use Rattle.live_work.specs.Worked.{with_seqnums, HasAppended, HasRead, DoesLine, AnswersLine, GoesOn, StopsAt, position_behind, append_behind, Worked}
 use Rattle.live_work.proofs.Fits.{answered_longer, answered_more, records_more, order_more, position_more, append_more, IsRead, is_read}
 
 with_seqnums_more : (ps : List (ℕ × Appended)) (p : ℕ × Appended) → with_seqnums (ps ++ p ∷ []) ≡ with_seqnums ps ++ (p.0 + 1, p.1.1) ∷ []
 with_seqnums_more [] p = refl
 with_seqnums_more (q ∷ ps) p = ap (λ (l : List (ℕ × Record)). (q.0 + 1, q.1.1) ∷ l) (with_seqnums_more ps p)
+
+-- behind the last place nothing is left in a list
+pub nothing_left : {X : Type 0} (xs : List X) (i : ℕ) → length xs ≤ i → drop i xs ≡ []
+nothing_left xs i h = grind (arith, common_steps, h)
 
 -- a worker between two lines: those in front were answered, and these are left
 pub record Going (ops rest : List LiveOp) (answers : List LiveAnswer) (e f : Engine) : Type 0 where
@@ -116,6 +122,14 @@ going_more ops rest xs e f h (op.Append tags text) (answer.Count n p) g d = goin
 going_more ops rest xs e f h (op.Next tag from) a g d = going_read ops rest xs e f h (op.Next tag from) a g d d.2 refl
 going_more ops rest xs e f h (op.Prev tag upto) a g d = going_read ops rest xs e f h (op.Prev tag upto) a g d d.2 refl
 going_more ops rest xs e f h (op.Count tag) a g d = going_read ops rest xs e f h (op.Count tag) a g d d.2 refl
+
+-- one line of the text more
+pub going_on : (number : ℕ) (ops : List LiveOp) (x : ℕ × LiveOp) (rest : List (ℕ × LiveOp)) (before after : List LiveAnswer) (e f h : Engine) → Going ops (ops_of number (x ∷ rest)) before e f → GoesOn number x f h before after → Going ops (ops_of number rest) after e h
+going_on number ops x rest before after e f h g d = go (x.0 == number) g d
+  where
+    go : (b : Bool) → Going ops (cond b (x.1 ∷ ops_of number rest) (ops_of number rest)) before e f → MatchBool b (AnswersLine f h x.1 before after) ((h ≡ f) × (after ≡ before)) → Going ops (ops_of number rest) after e h
+    go true g d = rw d.2 (going_more ops (ops_of number rest) before e f h x.1 d.0 g d.1)
+    go false g d = rw (d.0, d.1) g
 
 pub worked_ran : (ops : List LiveOp) (xs : List LiveAnswer) (e f : Engine) → Going ops [] xs e f → Worked ops xs e f Ran
 worked_ran ops xs e f g = record {

@@ -1,5 +1,5 @@
 -- What a worker did on its engine.
-use Rattle.std.specs.Prelude.{◌≡◌, ℕ, ◌+◌, ◌<◌, ◌≤◌, List, [], ◌∷◌, ◌++◌, length}
+use Rattle.std.specs.Prelude.{◌≡◌, ℕ, ◌+◌, ◌<◌, ◌≤◌, ◌==◌, List, [], ◌∷◌, ◌++◌, length, MatchBool}
 use mathlib.Core.List.{IsPrefix}
 use Rattle.lb_base.specs.declared.value.Record.{Record}
 use Rattle.lb_base.specs.declared.value.Seqnum.{Seqnum}
@@ -57,6 +57,10 @@ StopsAt e f _ = (f.number ≡ e.number) × (f.appends ≡ e.appends) × IsPrefix
 -- an answer was added
 abbrev pub AnswersLine : Engine → Engine → LiveOp → List LiveAnswer → List LiveAnswer → Type 0
 AnswersLine e f o before after = (a : LiveAnswer) × DoesLine e f o a × (after ≡ before ++ a ∷ [])
+
+-- a line of the text: it is answered where it is the worker's, and else nothing is done
+abbrev pub GoesOn : ℕ → ℕ × LiveOp → Engine → Engine → List LiveAnswer → List LiveAnswer → Type 0
+GoesOn number x e f before after = MatchBool (x.0 == number) (AnswersLine e f x.1 before after) ((f ≡ e) × (after ≡ before))
 
 -- the position behind answers, and the seqnum of the last append among them
 abbrev pub position_behind : ℕ → List LiveAnswer → ℕ

@@ -2,7 +2,6 @@
 
 ghost use Rattle.std.specs.Prelude.{◌≡◌, ◌≢◌, ◌≤◌, IfOk, IfErr, MatchResult};
 ghost use Rattle.lb_base.specs.Devices.{CountRose};
-ghost use Rattle.live_text.specs.declared.text.LiveOp.TheVariants as op;
 ghost use Rattle.live_work.specs.Worked.{DoesLine, StopsAt, HasLooked};
 
 use lb_base::{Tag, Words};
@@ -20,7 +19,7 @@ fn append<J: Naming, R: Wait>(
     log: &LiveLog<J>,
     engine: &mut LiveEngine<J>,
 ) -> Result<LiveAnswer, Stop>
-    ensures line { MatchResult result (DoesLine engine.old engine.new (op.Append tags.now text.now)) (StopsAt engine.old engine.new) }
+    ensures line { MatchResult result (DoesLine engine.old engine.new (LiveOp.Append tags.now text.now)) (StopsAt engine.old engine.new) }
     ensures refused { IfErr result (λ s. s ≢ Stop.Refused) }
 {
     let Ok(record) = record_of(alloc, tags, text) else {

@@ -6,7 +6,7 @@ ghost use Rattle.live_text.specs.Outputs.{log_of, ops_of, IsRunOf};
 ghost use Rattle.live_work.specs.Plain.{added_by, plain_answer, plain_answers, list_behind, plain_ran};
 
 use eng_index::Index;
-use lb_base::{List, Memory, Record, Tag, Words};
+use lb_base::{List, Memory, Record, Seqnum, Tag, Words};
 use live_text::{LiveAnswer, LiveOp, LiveRan, LiveText, record_of};
 use std::alloc::Global;
 
@@ -27,7 +27,7 @@ fn append(
     let record = record_of(alloc, tags, text)?;
     index.add(&record)?;
     list.push((worker, record))?;
-    Ok(LiveAnswer::Append(lb_base::Seqnum(list.len() as u64)))
+    Ok(LiveAnswer::Append(Seqnum(list.len() as u64)))
 }
 
 /// Does one line of a worker on a list with its index.
@@ -74,25 +74,29 @@ fn do_lines(
     Ok(answers)
 }
 
+/// Does the lines of each worker, one worker after another.
+fn in_turn(alloc: Global, text: &LiveText) -> Result<LiveRan, Memory>
+    ensures { IfOk result (λ ran. ran ≡ plain_ran text.now) }
+{
+    let mut list = List::new(alloc);
+    let mut index = Index::new(alloc)?;
+    let mut answers = List::new(alloc);
+    let lines = text.lines.as_slice();
+    'workers: for done in 0..text.workers {
+        let worker = done + 1;
+        answers.push(do_lines(alloc, worker, lines, &mut list, &mut index)?)?;
+    }
+    Ok(LiveRan { list, answers })
+}
+
 /// What a text comes to on one thread, over a plain list, with one worker after another. The list and the answers are right for the
 /// text.
 pub fn live_plain(alloc: Global, text: &LiveText) -> Result<LiveRan, Memory>
     ensures plain { IfOk result (λ ran. ran ≡ plain_ran text.now) }
     ensures right { IfOk result (λ ran. IsRunOf text.now ran) }
 {
-    let mut list = List::new(alloc);
-    let mut index = Index::new(alloc)?;
-    let mut answers = List::new(alloc);
-    let mut worker = 0;
-    'workers: for _ in 0..text.workers {
-        worker += 1;
-        answers.push(do_lines(
-            alloc,
-            worker,
-            text.lines.as_slice(),
-            &mut list,
-            &mut index,
-        )?)?;
+    match in_turn(alloc, text) {
+        Ok(ran) => Ok(ran),
+        Err(_) => Err(Memory),
     }
-    Ok(LiveRan { list, answers })
 }

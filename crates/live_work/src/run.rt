@@ -38,6 +38,7 @@ fn ran_of(
     }
 }
 
+#[tactic(auto, using(crate::proofs::Teams::length_engines))]
 /// Runs a text on a log that was opened. It answers nothing where a door refused, an append was behind or an engine ahead.
 fn run_on<
     J: Naming + Send + Sync,
@@ -109,7 +110,7 @@ fn real_doors(alloc: Global, n: u32) -> Result<Vec<RealDoor>, Memory>
     ensures { IfOk result (λ doors. length doors.items ≡ n) }
 {
     let mut doors = Vec::with_capacity(alloc, n as usize)?;
-    for _ in 0..n {
+    'doors: while doors.len() < n as usize {
         doors.push(RealDoor::new())?;
     }
     Ok(doors)

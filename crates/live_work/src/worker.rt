@@ -3,7 +3,7 @@
 ghost use Rattle.std.specs.Prelude.{◌≡◌, ◌≤◌, [], ◌++◌, IfErr, OnOk};
 ghost use Rattle.lb_base.specs.Devices.{CountRose};
 ghost use Rattle.live_text.specs.Outputs.{ops_of};
-ghost use Rattle.live_work.specs.Worked.{AnswersLine, StopsAt, Worked};
+ghost use Rattle.live_work.specs.Worked.{AnswersLine, GoesOn, StopsAt, Worked};
 ghost use Rattle.live_work.specs.Teams.{HasWorked};
 
 use crate::line::do_line;
@@ -60,6 +60,30 @@ fn do_next<J: Naming, D: Door, R: Wait>(
     Ok(())
 }
 
+/// Does a line where it is one of the worker with this number, behind the gate.
+fn do_own<J: Naming, D: Door, G: Gate, R: Wait>(
+    rt: &R,
+    alloc: Global,
+    number: u32,
+    line: &(u32, LiveOp),
+    log: &LiveLog<J>,
+    engine: &mut LiveEngine<J>,
+    door: &mut D,
+    answers: &mut Vec<LiveAnswer>,
+    gate: &G,
+) -> Result<(), Stop>
+    ensures ok { OnOk result (GoesOn number line.now engine.old engine.new answers.old.items answers.new.items) }
+    ensures err { IfErr result (λ s. StopsAt engine.old engine.new s × (answers.new.items ≡ answers.old.items)) }
+    ensures counted { D.refusals door.old ≤ D.refusals door.new }
+    ensures refused { IfErr result (λ s. s ≡ Stop.Refused → CountRose (D.refusals door.old) (D.refusals door.new)) }
+{
+    if line.0 != number {
+        return Ok(());
+    }
+    gate.enter(number);
+    do_next(rt, alloc, &line.1, log, engine, door, answers)
+}
+
 /// Does the lines of an engine's number, up to the first that has no answer.
 fn do_lines<J: Naming, D: Door, G: Gate, R: Wait>(
     rt: &R,
@@ -77,12 +101,9 @@ fn do_lines<J: Naming, D: Door, G: Gate, R: Wait>(
     let number = engine.number();
     let mut answers = Vec::new(alloc);
     'lines: for line in lines {
-        if line.0 == number {
-            gate.enter(number);
-            match do_next(rt, alloc, &line.1, log, engine, door, &mut answers) {
-                Ok(()) => {}
-                Err(stop) => return (answers, stop),
-            }
+        match do_own(rt, alloc, number, line, log, engine, door, &mut answers, gate) {
+            Ok(()) => {}
+            Err(stop) => return (answers, stop),
         }
     }
     (answers, Stop::Ran)
