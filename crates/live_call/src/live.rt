@@ -51,7 +51,7 @@ fn write_live<K: Sink, R: Threads + Wait + Sync>(
 }
 
 /// Writes what the live text that a text spells comes to, or why it spells none.
-fn live_text<K: Sink, R: Threads + Wait + Sync>(
+fn run_text<K: Sink, R: Threads + Wait + Sync>(
     rt: &R,
     alloc: Global,
     text: &[u8],
@@ -90,7 +90,7 @@ pub fn live_source<S: Source, K: Sink, R: Threads + Wait + Sync>(
     ensures write { result ≡ Status.WriteFault → CountRose (K.faults sink.old) (K.faults sink.new) }
 {
     match read_text(alloc, 1_048_576, source, sink) {
-        Ok(text) => live_text(rt, alloc, &text, sink),
+        Ok(text) => run_text(rt, alloc, &text, sink),
         Err(status) => status,
     }
 }

@@ -2,11 +2,13 @@
 
 ghost use Rattle.std.specs.Prelude.{◌≡◌, ◌≤◌, ◌<◌, ◌-◌, [], true, ℕ, Some, slice_index, All, IfOk, length, vec_len};
 ghost use Rattle.live_text.specs.Outputs.{IsRunOf};
+ghost use Rattle.live_work.specs.Teams.{EachWorked};
 
 use crate::closing::list_of;
 use crate::plain::live_plain;
 use crate::team::{all_ran, disband, enlist};
 use crate::work::work_live;
+use crate::worker::LiveWorker;
 use engine_gate::Gate;
 use lb_base::{List, Memory, Record};
 use live_log::{Door, LiveFault, LiveLog, Naming, Opened, RealDoor};
@@ -36,6 +38,28 @@ fn ran_of(
             _ => Err(Memory),
         },
     }
+}
+
+#[tactic(auto, using(crate::proofs::Teams::same_length))]
+/// Lets the workers of a team do their lines.
+fn work_team<
+    J: Naming + Send + Sync,
+    D: Door + Send,
+    G: Gate + Sync,
+    R: Threads + Wait + Sync,
+>(
+    rt: &R,
+    alloc: Global,
+    text: &LiveText,
+    log: &LiveLog<J>,
+    team: &mut Vec<LiveWorker<J, D>>,
+    gate: &G,
+)
+    requires { 0 < length team.old.items }
+    ensures count { length team.new.items ≡ length team.old.items }
+    ensures worked { EachWorked D.refusals text.now.lines team.old.items team.new.items }
+{
+    work_live(rt, alloc, text, log, team.as_mut_slice(), gate);
 }
 
 #[tactic(auto, using(crate::proofs::Teams::length_engines))]
@@ -75,7 +99,7 @@ fn run_on<
         log.give_up(rt, room);
         return Err(Memory);
     };
-    work_live(rt, alloc, text, &log, team.as_mut_slice(), gate);
+    work_team(rt, alloc, text, &log, &mut team, gate);
     let ran = all_ran(team.as_slice());
     let (engines, answers) = disband(team, room, sheets);
     ran_of(ran, list_of(rt, log, engines, door), answers)

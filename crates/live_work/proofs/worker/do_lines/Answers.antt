@@ -2,6 +2,8 @@ use Rattle.std.proofs.Common.{◌≡◌, ◌≤◌, ◌+◌, List, ℕ, drop, le
 use Rattle.line_text.proofs.ListLemmas.{drop_at}
 use Rattle.live_text.specs.declared.text.LiveOp.{LiveOp}
 use Rattle.live_text.specs.Outputs.{ops_of}
+use Rattle.live_log.specs.declared.fault.Stop.TheVariants.{Ran}
+use Rattle.live_work.specs.Worked.{Worked}
 use Rattle.live_work.proofs.Working.{Going, going_first, going_on, nothing_left, worked_ran, worked_stopped}
 use Rattle.live_work.proofs.worker.do_lines.Goals as goal
 
@@ -26,11 +28,13 @@ pub returns-in-Err-clause-worked : goal.returns-in-Err-clause-worked
 returns-in-Err-clause-worked g c =
     let n = c.number-number.result in
     let lines = c.args.lines.now in
-    rw (c.in-Err.ensures.err.1, ← c.number-number.ensures) (worked_stopped (ops_of n lines) (ops_of n (drop c.lines.line-index lines)) c.lines.answers.items c.args.engine.now c.lines.engine c.do_own.new.engine c.in-Err.stop c.lines.invariant.going c.in-Err.ensures.err.0)
+    rw c.in-Err.ensures.err.1 (subst (λ (k : ℕ). Worked (ops_of k lines) c.lines.answers.items c.args.engine.now c.do_own.new.engine c.in-Err.stop) c.number-number.ensures
+      (worked_stopped (ops_of n lines) (ops_of n (drop c.lines.line-index lines)) c.lines.answers.items c.args.engine.now c.lines.engine c.do_own.new.engine c.in-Err.stop c.lines.invariant.going c.in-Err.ensures.err.0))
 
 pub returns-clause-worked : goal.returns-clause-worked
 returns-clause-worked g c =
     let n = c.number-number.result in
     let lines = c.args.lines.now in
-    rw (← c.number-number.ensures) (worked_ran (ops_of n lines) c.lines.answers.items c.args.engine.now c.lines.engine
+    subst (λ (k : ℕ). Worked (ops_of k lines) c.lines.answers.items c.args.engine.now c.lines.engine Ran) c.number-number.ensures
+      (worked_ran (ops_of n lines) c.lines.answers.items c.args.engine.now c.lines.engine
       (subst (λ (l : List (ℕ × LiveOp)). Going (ops_of n lines) (ops_of n l) c.lines.answers.items c.args.engine.now c.lines.engine) (nothing_left lines c.lines.line-index c.lines-test.false) c.lines.invariant.going))
