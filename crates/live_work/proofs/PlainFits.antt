@@ -26,7 +26,7 @@ records_append w s [] ys = let same : s ≡ s + 0 = omega arith in ap (λ (n : �
 records_append w s (x ∷ xs) ys =
     let same : s + 1 + length xs ≡ s + length (x ∷ xs) = omega arith in
     let rest : records_of w (s + 1) (xs ++ ys) ≡ records_of w (s + 1) xs ++ records_of w (s + length (x ∷ xs)) ys =
-      records_append w (s + 1) xs ys ∙ ap (λ (n : ℕ). records_of w (s + 1) xs ++ records_of w n ys) same in
+    records_append w (s + 1) xs ys ∙ ap (λ (n : ℕ). records_of w (s + 1) xs ++ records_of w n ys) same in
     cons_if (x.0 == w) (s, x.1) (records_of w (s + 1) (xs ++ ys)) (records_of w (s + 1) xs) (records_of w (s + length (x ∷ xs)) ys) rest
 
 -- the record of a line, where it is the worker's own, and where it is another's
@@ -126,15 +126,14 @@ each_plain (suc n) w lines list fresh =
     let behind : List Appended = list_behind w ops list in
     let now : List Appended = list_of_workers n (w + 1) lines behind in
     let others : Fresh (w + 1) behind = λ k le.
-      let other : (w == k) ≡ false = grind (arith, nat_tests, le) in
-      other_records k w ops list other ∙ fresh k (omega (arith, le)) in
-    (
+    let other : (w == k) ≡ false = grind (arith, nat_tests, le) in
+    other_records k w ops list other ∙ fresh k (omega (arith, le)) in (
       record {
         answered = plain_answered w ops list now (workers_grow n (w + 1) lines behind);
         appended =
-          later_workers w n (w + 1) lines behind (omega arith)
-          ∙ plain_records w ops list
-          ∙ ap (λ (l : List (ℕ × Record)). l ++ records_answered ops (plain_answers w ops list)) (fresh w (omega arith));
+            later_workers w n (w + 1) lines behind (omega arith)
+            ∙ plain_records w ops list
+            ∙ ap (λ (l : List (ℕ × Record)). l ++ records_answered ops (plain_answers w ops list)) (fresh w (omega arith));
         in_order = plain_in_order w ops list 0 0 (omega arith) (omega arith);
       },
       each_plain n (w + 1) lines behind others,
@@ -160,7 +159,7 @@ list_by_workers : (m n w : ℕ) (lines : List (ℕ × LiveOp)) (list : List Appe
 list_by_workers m zero w lines list low high by = by
 list_by_workers m (suc n) w lines list low high by =
     list_by_workers m n (w + 1) lines (list_behind w (ops_of w lines) list) (omega (arith, low)) (omega (arith, high))
-      (behind_by_worker m w (ops_of w lines) list low (omega (arith, high)) by)
+    (behind_by_worker m w (ops_of w lines) list low (omega (arith, high)) by)
 
 count_answers : (n w : ℕ) (lines : List (ℕ × LiveOp)) (list : List Appended) → length (answers_of_workers n w lines list) ≡ n
 count_answers zero w lines list = refl
@@ -189,7 +188,7 @@ pub answers_more : (m done : ℕ) (lines : List (ℕ × LiveOp)) (list now : Lis
 answers_more m done lines list now before after a lt is told more =
     let rest : List (List LiveAnswer) = answers_of_workers (m - (done + 1)) (done + 1 + 1) lines now in
     let one : answers_of_workers (m - done) (done + 1) lines list ≡ plain_answers (done + 1) (ops_of (done + 1) lines) list ∷ answers_of_workers (m - (done + 1)) (done + 1 + 1) lines (list_behind (done + 1) (ops_of (done + 1) lines) list) =
-      ap (λ (n : ℕ). answers_of_workers n (done + 1) lines list) (left_more m done lt) in
+    ap (λ (n : ℕ). answers_of_workers n (done + 1) lines list) (left_more m done lt) in
     ap (λ (l : List (List LiveAnswer)). l ++ rest) more
     ∙ append_assoc before (a ∷ []) rest
     ∙ ap (λ (x : List LiveAnswer). before ++ x ∷ rest) told

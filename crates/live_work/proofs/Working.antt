@@ -15,7 +15,7 @@ use Rattle.live_text.specs.declared.answers.LiveAnswer.TheVariants as answer
 use Rattle.live_text.specs.declared.text.LiveOp.{LiveOp}
 use Rattle.live_text.specs.declared.text.LiveOp.TheVariants as op
 use Rattle.std.specs.Prelude.{MatchBool}
-use Rattle.live_text.specs.Outputs.{Appended, user_record, ops_of, IsAnswerOf, EachAnswered, record_answered, records_answered, AreInOrder, position_after, append_after}
+use Rattle.live_text.specs.Outputs.{Appended, user_record, ops_of, IsAnswerOf, EachAnswered, record_answered, records_answered, AreInOrder}
 use Rattle.live_work.specs.Worked.{with_seqnums, HasAppended, HasRead, DoesLine, AnswersLine, GoesOn, StopsAt, position_behind, append_behind, Worked}
 use Rattle.live_work.proofs.Fits.{answered_longer, answered_more, records_more, order_more, position_more, append_more, IsRead, is_read}
 
@@ -74,10 +74,10 @@ going_append ops rest xs e f h tags text seq g above d =
       answered = answered_more f.seen g.front xs o a g.answered tt;
       own = g.own ++ p ∷ [];
       appended =
-        with_seqnums_more g.own p
-        ∙ ap (λ (l : List (ℕ × Record)). l ++ (length list + 1, r) ∷ []) g.appended
-        ∙ ap (λ (n : ℕ). records_answered g.front xs ++ (n, r) ∷ []) (sym d.1)
-        ∙ sym (records_more f.seen g.front xs o a g.answered);
+          with_seqnums_more g.own p
+          ∙ ap (λ (l : List (ℕ × Record)). l ++ (length list + 1, r) ∷ []) g.appended
+          ∙ ap (λ (n : ℕ). records_answered g.front xs ++ (n, r) ∷ []) (sym d.1)
+          ∙ sym (records_more f.seen g.front xs o a g.answered);
       appends = ap (λ (l : List (ℕ × Appended)). l ++ p ∷ []) g.appends ∙ append_assoc e.appends g.own (p ∷ []);
       in_order = order_more e.position 0 xs a g.in_order (omega (arith, g.here, above));
       here = position_more e.position xs a ∙ g.here;
@@ -98,20 +98,20 @@ going_read ops rest xs e f h o a g r is none =
       answered = answered_more h.seen g.front xs o a (answered_longer f.seen h.seen g.front xs l.seen g.answered) is;
       own = g.own;
       appended =
-        g.appended
-        ∙ sym (records_more f.seen g.front xs o a g.answered
+          g.appended
+          ∙ sym (records_more f.seen g.front xs o a g.answered
           ∙ ap (λ (m : List (ℕ × Record)). records_answered g.front xs ++ m) none
           ∙ append-nil (records_answered g.front xs));
       appends = l.appends ∙ g.appends;
       in_order =
-        order_more e.position 0 xs a g.in_order
+          order_more e.position 0 xs a g.in_order
           (i.stands (position_behind e.position xs) (append_behind 0 xs)
-            (omega (arith, g.here, l.rises, r.1))
-            (omega (arith, covered, l.whole, r.1)));
+          (omega (arith, g.here, l.rises, r.1))
+          (omega (arith, covered, l.whole, r.1)));
       here = position_more e.position xs a ∙ i.moves (position_behind e.position xs) ∙ r.1;
       covered =
-        let same : length h.known ≡ length h.seen = ap (λ (s : List Appended). length s) l.known_is in
-        omega (arith, append_more 0 xs a, i.keeps (append_behind 0 xs), covered, same);
+          let same : length h.known ≡ length h.seen = ap (λ (s : List Appended). length s) l.known_is in
+          omega (arith, append_more 0 xs a, i.keeps (append_behind 0 xs), covered, same);
     }
 
 pub going_more : (ops rest : List LiveOp) (xs : List LiveAnswer) (e f h : Engine) (o : LiveOp) (a : LiveAnswer) → Going ops (o ∷ rest) xs e f → DoesLine f h o a → Going ops rest (xs ++ a ∷ []) e h

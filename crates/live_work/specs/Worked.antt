@@ -4,7 +4,7 @@ use mathlib.Core.List.{IsPrefix}
 use Rattle.lb_base.specs.declared.value.Record.{Record}
 use Rattle.lb_base.specs.declared.value.Seqnum.{Seqnum}
 use Rattle.live_log.specs.declared.fault.Stop.{Stop}
-use Rattle.live_log.specs.declared.fault.Stop.TheVariants.{Ran, Refused, Behind, Memory}
+use Rattle.live_log.specs.declared.fault.Stop.TheVariants.{Ran, Behind}
 use Rattle.live_log.specs.Engines.{Engine}
 use Rattle.live_text.specs.declared.answers.LiveAnswer.{LiveAnswer}
 use Rattle.live_text.specs.declared.answers.LiveAnswer.TheVariants as answer

@@ -42,12 +42,7 @@ fn ran_of(
 
 #[tactic(auto, using(crate::proofs::Teams::same_length))]
 /// Lets the workers of a team do their lines.
-fn work_team<
-    J: Naming + Send + Sync,
-    D: Door + Send,
-    G: Gate + Sync,
-    R: Threads + Wait + Sync,
->(
+fn work_team<J: Naming + Send + Sync, D: Door + Send, G: Gate + Sync, R: Threads + Wait + Sync>(
     rt: &R,
     alloc: Global,
     text: &LiveText,
@@ -64,12 +59,7 @@ fn work_team<
 
 #[tactic(auto, using(crate::proofs::Teams::length_engines))]
 /// Runs a text on a log that was opened. It answers nothing where a door refused, an append was behind or an engine ahead.
-fn run_on<
-    J: Naming + Send + Sync,
-    D: Door + Send + Drop,
-    G: Gate + Sync,
-    R: Threads + Wait + Sync,
->(
+fn run_on<J: Naming + Send + Sync, D: Door + Send + Drop, G: Gate + Sync, R: Threads + Wait + Sync>(
     rt: &R,
     alloc: Global,
     opened: Opened,

@@ -22,12 +22,7 @@ use std::thread::Threads;
 /// before it, and the engine's appends are those that it had and those that were answered. It stops as `Refused` only where its
 /// door's refusals rose, and as `Behind` exactly where an append got a seqnum that isn't above the position before it: that append has
 /// no answer, and the engine has it behind the others.
-pub fn work_live<
-    J: Naming + Send + Sync,
-    D: Door + Send,
-    G: Gate + Sync,
-    R: Threads + Wait + Sync,
->(
+pub fn work_live<J: Naming + Send + Sync, D: Door + Send, G: Gate + Sync, R: Threads + Wait + Sync>(
     rt: &R,
     alloc: Global,
     text: &LiveText,

@@ -101,7 +101,17 @@ fn do_lines<J: Naming, D: Door, G: Gate, R: Wait>(
     let number = engine.number();
     let mut answers = Vec::new(alloc);
     'lines: for line in lines {
-        match do_own(rt, alloc, number, line, log, engine, door, &mut answers, gate) {
+        match do_own(
+            rt,
+            alloc,
+            number,
+            line,
+            log,
+            engine,
+            door,
+            &mut answers,
+            gate,
+        ) {
             Ok(()) => {}
             Err(stop) => return (answers, stop),
         }

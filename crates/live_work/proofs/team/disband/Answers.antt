@@ -1,4 +1,4 @@
-use Rattle.std.proofs.Common.{rules, arith, ◌≡◌, ◌+◌, ◌++◌, ◌∷◌, [], List, length-append, sym, ap, ◌∙◌}
+use Rattle.std.proofs.Common.{arith, ◌++◌, ◌∷◌, [], List, length-append, sym, ap, ◌∙◌}
 use Rattle.live_log.specs.Engines.{Engine}
 use Rattle.live_text.specs.declared.answers.LiveAnswer.{LiveAnswer}
 use Rattle.live_work.proofs.Teams.{engines_more, answers_more}

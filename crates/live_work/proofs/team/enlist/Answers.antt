@@ -1,4 +1,4 @@
-use Rattle.std.proofs.Common.{◌≡◌, ◌++◌, ◌∷◌, [], List, ap, ◌∙◌}
+use Rattle.std.proofs.Common.{◌++◌, ◌∷◌, [], List, ap, ◌∙◌}
 use Rattle.live_log.specs.Engines.{Engine}
 use Rattle.live_work.specs.declared.worker.LiveWorker.{LiveWorker}
 use Rattle.live_work.specs.Teams.{engines_of}

@@ -1,4 +1,4 @@
-use Rattle.std.proofs.Common.{◌≡◌, ◌+◌, length}
+use Rattle.std.proofs.Common.{◌≡◌}
 use Rattle.live_work.specs.Teams.{engines_of}
 use Rattle.live_work.proofs.team.enlist.Given as goal
 

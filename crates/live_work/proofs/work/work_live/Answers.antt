@@ -1,4 +1,4 @@
-use Rattle.std.proofs.Common.{◌≡◌, ℕ, rules, length}
+use Rattle.std.proofs.Common.{rules}
 use Rattle.live_work.proofs.Teams.{each_worked}
 use Rattle.live_work.proofs.work.work_live.Goals as goal
 

@@ -1,4 +1,4 @@
-use Rattle.std.proofs.Common.{◌≡◌, ◌≤◌, drop}
+use Rattle.std.proofs.Common.{◌≤◌, drop}
 use Rattle.live_text.specs.Outputs.{ops_of}
 use Rattle.live_work.proofs.Working.{Going}
 use Rattle.live_work.proofs.worker.do_lines.Given as goal
