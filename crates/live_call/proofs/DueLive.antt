@@ -1,5 +1,5 @@
 -- Something is due on every text; and calls that end before their text is there, or before its output is.
-use Rattle.std.proofs.Common.{◌≡◌, ℕ, Bool, true, false, cond, List, length, Option, Some, None, Result, Ok, Err, refl, sym, subst}
+use Rattle.std.proofs.Common.{◌≡◌, ℕ, Bool, true, false, cond, List, [], length, Option, Some, None, Result, Ok, Err, refl, sym, subst}
 use Rattle.std.specs.Prelude.{IfSome, IfOk, nat_lt}
 use Rattle.lb_base.proofs.DeviceLemmas.{AppendsPrefix-none}
 use Rattle.boki_types.specs.declared.kind.Kind.{Kind}
@@ -19,7 +19,7 @@ use Rattle.live_call.specs.Live.{IsOutputDue, IsDueBy, MeetsLive, MeetsOutput}
 
 -- what is due, by the run on one thread
 output_due : (text : LiveText) → (d : Due) × IsOutputDue text d
-output_due text = (due Done (ran_text (plain_ran text)), ran_text (plain_ran text), (plain_ran text, plain_fits text, refl), refl)
+output_due text = (due Done (ran_text (plain_ran text)), (ran_text (plain_ran text), (plain_ran text, plain_fits text, refl), refl))
 
 some_due : (read : Result LiveText TextFault) → (d : Due) × IsDueBy read d
 some_due (Ok text) = output_due text
