@@ -3,16 +3,18 @@
 ghost use Rattle.std.specs.Prelude.{◌≤◌};
 
 use lb_base::{MemSink, MemSource, SureSink, SureSource};
-use live_call::{Status, live_top};
 use line_text::Kind;
+use live_call::{Status, live_top};
 use std::alloc::{AllocError, Global};
 use std::sync::Wait;
 use std::test::Fail;
 use std::thread::Threads;
 
-const TEXT: &str = "live 1\n1 append 7 \"a\"\n1 prev 7 99\n1 append 7 \"b\"\n1 count 7\n1 next 8 1\n";
+const TEXT: &str =
+    "live 1\n1 append 7 \"a\"\n1 prev 7 99\n1 append 7 \"b\"\n1 count 7\n1 next 8 1\n";
 
-const OUTPUT: &str = "list\n1 1 7 \"a\"\n2 1 7 \"b\"\nworker 1\nappend 1\nprev 1 at 1\nappend 2\ncount 2 at 2\nnext none at 2\nend\n";
+const OUTPUT: &str =
+    "list\n1 1 7 \"a\"\n2 1 7 \"b\"\nworker 1\nappend 1\nprev 1 at 1\nappend 2\ncount 2 at 2\nnext none at 2\nend\n";
 
 fn words_of(alloc: Global, texts: &[&str]) -> Result<Vec<String>, AllocError> {
     let mut words = Vec::new(alloc);

@@ -1,8 +1,8 @@
 //! Where and why a live text is refused.
 
 use lb_base::Memory;
-use live_text::parse_live;
 use line_text::TextFault;
+use live_text::parse_live;
 use std::alloc::Global;
 use std::test::Fail;
 
@@ -36,7 +36,11 @@ fn reads_the_first_line(rt: HostRuntime) -> Result<(), Fail> {
         ("# none\n", "2 end"),
         ("", "1 end"),
     ] {
-        assert_eq!(rt; refusal_of(alloc, text.as_bytes())?.as_str(), want, "at {text}");
+        assert_eq!(rt;
+            refusal_of(alloc, text.as_bytes())?.as_str(),
+            want,
+            "at {text}"
+        );
     }
     Ok(())
 }
@@ -88,8 +92,14 @@ fn refuses_the_first_line_with_a_fault(rt: HostRuntime) -> Result<(), Fail> {
     let alloc = rt.alloc();
     let first = "live 1\n2 count 7\n1 counts 7\n";
     assert_eq!(rt; refusal_of(alloc, first.as_bytes())?.as_str(), "2 range");
-    assert_eq!(rt; refusal_of(alloc, b"live 1\n\xff\n1 counts 7\n")?.as_str(), "2 utf8");
+    assert_eq!(rt;
+        refusal_of(alloc, b"live 1\n\xff\n1 counts 7\n")?.as_str(),
+        "2 utf8"
+    );
     assert_eq!(rt; refusal_of(alloc, b"live 1\n\xff")?.as_str(), "2 utf8");
-    assert_eq!(rt; refusal_of(alloc, b"live 1\n1 count 7")?.as_str(), "2 truncated");
+    assert_eq!(rt;
+        refusal_of(alloc, b"live 1\n1 count 7")?.as_str(),
+        "2 truncated"
+    );
     Ok(())
 }

@@ -11,7 +11,8 @@ pub(crate) const ONE_WORKER: &str =
     "live 1\n1 append 7 \"a\"\n1 prev 7 99\n1 append 7 \"b\"\n1 count 7\n1 next 8 1\n";
 
 /// What it comes to.
-pub(crate) const ONE_WORKER_OUTPUT: &str = "list\n1 1 7 \"a\"\n2 1 7 \"b\"\nworker 1\nappend 1\nprev 1 at 1\nappend 2\ncount 2 at 2\nnext none at 2\nend\n";
+pub(crate) const ONE_WORKER_OUTPUT: &str =
+    "list\n1 1 7 \"a\"\n2 1 7 \"b\"\nworker 1\nappend 1\nprev 1 at 1\nappend 2\ncount 2 at 2\nnext none at 2\nend\n";
 
 /// The live text that a text spells.
 pub(crate) fn text_of(alloc: Global, text: &str) -> Result<LiveText, Memory> {

@@ -15,13 +15,16 @@ use std::thread;
 use std::thread::Threads;
 
 /// Worker 1 appends once worker 2 has done so, so that the list of a run isn't that of one thread.
-const TWO_WORKERS: &str = "live 2\n1 append 7 \"a\"\n1 count 7\n2 append 7 \"b\"\n2 append 7 \"c\"\n2 count 7\n";
+const TWO_WORKERS: &str =
+    "live 2\n1 append 7 \"a\"\n1 count 7\n2 append 7 \"b\"\n2 append 7 \"c\"\n2 count 7\n";
 
 /// What it comes to on one thread.
-const ONE_THREAD: &str = "list\n1 1 7 \"a\"\n2 2 7 \"b\"\n3 2 7 \"c\"\nworker 1\nappend 1\ncount 1 at 1\nworker 2\nappend 2\nappend 3\ncount 3 at 3\nend\n";
+const ONE_THREAD: &str =
+    "list\n1 1 7 \"a\"\n2 2 7 \"b\"\n3 2 7 \"c\"\nworker 1\nappend 1\ncount 1 at 1\nworker 2\nappend 2\nappend 3\ncount 3 at 3\nend\n";
 
 /// What it comes to where worker 1 waits.
-const IN_TURN: &str = "list\n1 2 7 \"b\"\n2 2 7 \"c\"\n3 1 7 \"a\"\nworker 1\nappend 3\ncount 3 at 3\nworker 2\nappend 1\nappend 2\ncount 3 at 3\nend\n";
+const IN_TURN: &str =
+    "list\n1 2 7 \"b\"\n2 2 7 \"c\"\n3 1 7 \"a\"\nworker 1\nappend 3\ncount 3 at 3\nworker 2\nappend 1\nappend 2\ncount 3 at 3\nend\n";
 
 /// Holds worker 1 before its first line until worker 2 is at its third, and worker 2 there until worker 1 is at its second, each for so
 /// many looks at most.
@@ -98,7 +101,11 @@ fn each_call_refused(rt: HostRuntime) -> Result<(), Fail> {
         ((0, 2, 0), IN_TURN),
         ((0, 0, 1), ONE_THREAD),
     ] {
-        assert_eq!(rt; refused_at(&rt, alloc, calls)?.as_str(), want, "at {calls:?}");
+        assert_eq!(rt;
+            refused_at(&rt, alloc, calls)?.as_str(),
+            want,
+            "at {calls:?}"
+        );
     }
     Ok(())
 }

@@ -12,7 +12,10 @@ const THREE_WORKERS: &str = "live 3\n1 append 7 \"a\"\n1 prev 7 99\n2 append 7 \
 fn one_after_another(rt: HostRuntime) -> Result<(), Fail> {
     let alloc = rt.alloc();
     let one = text_of(alloc, ONE_WORKER)?;
-    assert_eq!(rt; printed(alloc, live_plain(alloc, &one))?.as_str(), ONE_WORKER_OUTPUT);
+    assert_eq!(rt;
+        printed(alloc, live_plain(alloc, &one))?.as_str(),
+        ONE_WORKER_OUTPUT
+    );
     let three = text_of(alloc, THREE_WORKERS)?;
     assert_eq!(rt;
         printed(alloc, live_plain(alloc, &three))?.as_str(),
@@ -38,6 +41,9 @@ fn without_lines(rt: HostRuntime) -> Result<(), Fail> {
     let alloc = rt.alloc();
     let two = text_of(alloc, "live 2\n")?;
     let ran = run_live(&rt, alloc, &two, &NoGate);
-    assert_eq!(rt; printed(alloc, ran)?.as_str(), "list\nworker 1\nworker 2\nend\n");
+    assert_eq!(rt;
+        printed(alloc, ran)?.as_str(),
+        "list\nworker 1\nworker 2\nend\n"
+    );
     Ok(())
 }

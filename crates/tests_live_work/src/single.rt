@@ -103,8 +103,13 @@ fn each_look_refused(rt: HostRuntime) -> Result<(), Fail> {
     ] {
         let mut real = RealDoor::new();
         let opened = LiveLog::open(&rt, alloc, 1, &mut real).map_err(|_| "refused")?;
-        let (answers, stop) =
-            on_a_log::<Brand, _, _>(&rt, alloc, opened, Refusing::at(refuse), &text)?;
+        let (answers, stop) = on_a_log::<Brand, _, _>(
+            &rt,
+            alloc,
+            opened,
+            Refusing::at(refuse),
+            &text,
+        )?;
         assert_eq!(rt; (answers.len(), stop), (answered, want), "at {refuse}");
     }
     Ok(())
