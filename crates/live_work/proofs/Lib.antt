@@ -1,0 +1,4 @@
+pub mod Fits
+pub mod Working
+pub mod Teams
+pub mod PlainFits
