@@ -1,0 +1,3 @@
+pub mod ReadMoves
+pub mod MarkerMoves
+pub mod WriteMoves
