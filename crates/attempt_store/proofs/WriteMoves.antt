@@ -1,5 +1,5 @@
 -- Writes that the store takes, by what it answers.
-use Rattle.std.proofs.Common.{◌≡◌, ℕ, suc, ◌<◌, Bool, true, false, cond, ltb, ◌&&◌, not, List, ◌∷◌, refl, sym, ap, subst}
+use Rattle.std.proofs.Common.{◌≡◌, inr, ℕ, suc, ◌<◌, Bool, true, false, cond, ltb, ◌&&◌, not, List, ◌∷◌, refl, sym, ap, subst}
 use Rattle.lb_base.specs.declared.value.Value.{Value}
 use Rattle.boki_types.specs.declared.body.Body.{Body}
 use Rattle.boki_types.specs.declared.line.Life.TheVariants.{Stopped}
@@ -8,6 +8,8 @@ use Rattle.boki_types.specs.declared.line.StepLine.TheVariants as line
 use Rattle.boki_types.specs.declared.log.Sent.{Sent}
 use Rattle.boki_types.specs.declared.operation.Answer.TheVariants as a
 use Rattle.boki_types.specs.declared.program.Function.{Function}
+use Rattle.boki_types.specs.declared.store.Name.{Name}
+use Rattle.boki_types.specs.declared.store.Named.{Named}
 use Rattle.boki_types.specs.declared.store.Named.TheVariants as named
 use Rattle.boki_types.specs.declared.store.Put.{Put}
 use Rattle.boki_types.specs.declared.store.Put.TheVariants as put
@@ -19,7 +21,28 @@ use Rattle.hm_read.specs.Kept.{IsKept}
 use Rattle.obj_store.specs.Kept.{StoreState}
 use Rattle.attempt_state.specs.declared.state.AttemptState.{AttemptState}
 use Rattle.attempt_state.specs.Attempts.{AttemptStandsFor}
-use Rattle.attempt_store.specs.Moved.{IsMovedAlone, MovesStore}
+use Rattle.hm_write.specs.Stores.{StoresNamed, PutsFree}
+use Rattle.attempt_store.specs.Moved.{EitherKept, IsMovedAlone, MovesStore}
+
+-- What was stored and put in, as the attempt says it.
+
+pub stores_at :
+    (t : Attempt) (name : Name) (cursor : ℕ) (value : Value) (old new : StoreState) (a : Named)
+    → name.path ≡ t.path → name.place ≡ t.place → cursor ≡ t.cursor → StoresNamed name cursor value old new a
+    → StoresNamed (next_write_name t) t.cursor value old new a
+stores_at t name cursor value old new a path place at is =
+    let same : name ≡ next_write_name t = (λ i. record { path = path i; place = place i }) in
+    subst (λ (n : ℕ). StoresNamed (next_write_name t) n value old new a) at
+    (subst (λ (n : Name). StoresNamed n cursor value old new a) same is)
+
+pub puts_at :
+    (t : Attempt) (key named : List ℕ) (cursor k : ℕ) (value : Value) (old new : StoreState) (a : Put)
+    → named ≡ key → cursor ≡ t.cursor → k ≡ suc t.free_writes → PutsFree named cursor k value old new a
+    → PutsFree key t.cursor (suc t.free_writes) value old new a
+puts_at t key named cursor k value old new a same at number is =
+    subst (λ (l : List ℕ). PutsFree l t.cursor (suc t.free_writes) value old new a) same
+    (subst (λ (n : ℕ). PutsFree named n (suc t.free_writes) value old new a) at
+    (subst (λ (n : ℕ). PutsFree named cursor n value old new a) number is))
 
 -- a version isn't put in where the store doesn't answer Done
 late_puts_none : (gone there fenced : Bool) → put.Late ≡ put_answer gone there fenced → (not gone && not there && not fenced) ≡ false
@@ -61,6 +84,10 @@ module _ (fs : List Function) (t : Attempt) (m : Store) (records : List (Live Bo
   put_gone e is said stands =
       let none = gone_puts_none (ltb t.cursor m.floor) (has_version key t.cursor (suc t.free_writes) m) (ltb t.cursor (fence key m.fences)) e in
       subst Puts e (record { moved = record { line_is = said; attempt = stands }; store = unput none is })
+
+  pub put_after : put.Done ≡ put_at key t.cursor (suc t.free_writes) m → IsKept kept (after_put key t.cursor (suc t.free_writes) value m) records
+      → EitherKept kept m (free_write_step (put_at key t.cursor (suc t.free_writes) m) t m key value).store records
+  put_after e is = inr (subst (λ (p : Put). IsKept kept (free_write_step p t m key value).store records) e is)
 
   module _ (at : Sent) where
     -- a value is stored, or the attempt stops, by whether its cursor is below the floor

@@ -94,7 +94,7 @@ pub fn pairs_of(
     ensures { IfOk result (λ pairs. pairs ≡ zip names.now values.now) }
 {
     let mut pairs = Vec::new(alloc);
-    for (name, value) in names.iter().zip(values) {
+    'pairs: for (name, value) in names.iter().zip(values) {
         let name = name.clone()?;
         pairs.push((name, value.clone()?))?;
     }

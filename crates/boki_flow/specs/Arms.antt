@@ -9,7 +9,9 @@ use Rattle.boki_types.specs.declared.line.Life.TheVariants.{Running}
 use Rattle.boki_types.specs.declared.log.Call.{Call}
 use Rattle.boki_types.specs.declared.operation.Op.{Op}
 use Rattle.boki_model.specs.Reads.{nth}
-use Rattle.boki_model.specs.Bodies.{step_tag}
+use Rattle.boki_model.specs.Bodies.{step_tag, child}
+use Rattle.boki_model.specs.Modes.{result_of, mode_after}
+use Rattle.book_api.specs.Books.{next_sent}
 use Rattle.step_log.specs.Sound.{view}
 use Rattle.machine_laws.specs.Adopts.{AdoptsAsked}
 use Rattle.boki_types.specs.declared.operation.Ask.{Ask}
@@ -27,11 +29,12 @@ use Rattle.boki_types.specs.declared.plan.Setup.{Setup}
 use Rattle.boki_types.specs.declared.program.Function.{Function}
 use Rattle.boki_model.specs.Writes.{Store}
 use Rattle.boki_machine.specs.Attempt.{Attempt, Move, moves, adopts, call_of}
-use Rattle.boki_machine.specs.Step.{Missed, seqnum, attempt_ask, answers_to, adopts_answer}
+use Rattle.boki_machine.specs.Step.{Missed, seqnum, attempt_ask, answers_to, adopts_answer, records_below, init_step, script_step, join_step}
 use Rattle.boki_model.specs.Live.{Live}
 use Rattle.boki_types.specs.declared.body.Body.{Body}
 use Rattle.attempt_state.specs.declared.state.AttemptState.{AttemptState}
 use Rattle.attempt_state.specs.Attempts.{HasScript}
+use Rattle.attempt_log.specs.Moves.{asked_move}
 use Rattle.boki_flow.specs.declared.parts.Parts.{Parts}
 use Rattle.boki_flow.specs.Parts.{IsCutShort}
 use Rattle.boki_flow.specs.Flow.{FlowStandsFor, IsMoved, IsMissed}
@@ -141,3 +144,39 @@ abbrev pub adopted_init : List Function → Attempt → Store → ℕ → Call �
 adopted_init fs a store seq call mode =
     moves (record (adopts a seq) { mode = mode; function = unwrap_or (find call.function fs) 0; args = call.args }) store
     (line.AdoptInit (seqnum seq) mode)
+
+-- The moves of what a script asks, and of an attempt that has adopted nothing yet, by what the attempt's engine sees in a book.
+
+abbrev pub HasItsScript : Setup → Store → Attempt → Type 0
+HasItsScript setup store a = HasScript a
+
+abbrev pub Asks : List Function → Ask → Setup → Store → Attempt → Type 0
+Asks fs ask setup store a = IsAsking fs ask a
+
+abbrev pub IsCalledBy : Parts → Call → Setup → Store → Attempt → Type 0
+IsCalledBy parts call setup store a = IsCalled parts call a
+
+abbrev pub script_move : List Function → Parts → Setup → Store → Attempt → Move
+script_move fs parts setup store a =
+    script_step setup fs a store (view parts.book a.engine) (next_sent parts.book a.engine) (attempt_ask fs a)
+
+-- a join of this child
+abbrev pub join_move : Parts → ℕ → Setup → Store → Attempt → Move
+join_move parts ordinal setup store a =
+    join_step a store (next_sent parts.book a.engine) ordinal (result_of (child a.path ordinal) (view parts.book a.engine))
+
+-- what is asked is sent, of a write that is inline with its value
+abbrev pub send_move : List Function → Parts → Bool → Option FrameState → Setup → Store → Attempt → Move
+send_move fs parts inline frame setup store a =
+    asked_move fs a store (next_sent parts.book a.engine) (here_in inline (asked_in frame)) (asked_in frame)
+
+-- the Init is adopted, waited for, or sent
+abbrev pub init_move : List Function → Parts → Call → Setup → Store → Attempt → Move
+init_move fs parts call setup store a =
+    let seen = view parts.book a.engine in
+    init_step setup fs a store seen (next_sent parts.book a.engine) call (nth (step_tag a.path) 0 seen)
+
+-- the Init at a seqnum is adopted
+abbrev pub adopts_init : List Function → Parts → Call → ℕ → Setup → Store → Attempt → Move
+adopts_init fs parts call seq setup store a =
+    adopted_init fs a store seq call (mode_after setup.mode (records_below seq (view parts.book a.engine)))

@@ -1,16 +1,9 @@
 //! What a script asks, where no record answers it.
-ghost use Rattle.std.specs.Prelude.{◌≡◌, true, OnErr, IfOk};
+ghost use Rattle.std.specs.Prelude.{◌≡◌, OnErr, IfOk};
 ghost use Rattle.std.specs.Option.{option_copied};
 ghost use Rattle.boki_types.specs.declared.operation.Ask.TheVariants as k;
 ghost use Rattle.boki_types.specs.declared.operation.Op.TheVariants as o;
-ghost use Rattle.boki_model.specs.Bodies.{child};
-ghost use Rattle.boki_model.specs.Modes.{result_of};
-ghost use Rattle.attempt_log.specs.Moves.{asked_move};
-ghost use Rattle.boki_machine.specs.Step.{script_step, join_step, attempt_ask};
-ghost use Rattle.book_api.specs.Books.{next_sent};
-ghost use Rattle.step_log.specs.Sound.{view};
-ghost use Rattle.attempt_state.specs.Attempts.{HasScript};
-ghost use Rattle.boki_flow.specs.Arms.{CanFlowIf, MovesBy, CutShortBy, IsAsking, asked_in, here_in};
+ghost use Rattle.boki_flow.specs.Arms.{CanFlowIf, MovesBy, CutShortBy, HasItsScript, Asks, here_in, script_move, join_move, send_move};
 
 use crate::parts::Parts;
 use attempt_log::send_asked;
@@ -28,13 +21,11 @@ pub(crate) fn step_script(
     parts: &mut Parts,
     state: &mut AttemptState,
 ) -> Result<StepLine, Memory>
-    requires { CanFlowIf (λ setup store a. HasScript a) program.now.functions parts.old state.old }
-    ensures ok { IfOk result (MovesBy (λ setup store a. HasScript a)
-        (λ setup store a. script_step setup program.now.functions a store (view parts.old.book a.engine) (next_sent parts.old.book a.engine) (attempt_ask program.now.functions a))
+    requires { CanFlowIf HasItsScript program.now.functions parts.old state.old }
+    ensures ok { IfOk result (MovesBy HasItsScript (script_move program.now.functions parts.old)
         program.now.functions parts.old parts.new state.old state.new) }
     ensures err { OnErr result (state.new ≡ state.old) }
-    ensures cut { OnErr result (CutShortBy (λ setup store a. HasScript a)
-        (λ setup store a. script_step setup program.now.functions a store (view parts.old.book a.engine) (next_sent parts.old.book a.engine) (attempt_ask program.now.functions a))
+    ensures cut { OnErr result (CutShortBy HasItsScript (script_move program.now.functions parts.old)
         program.now.functions parts.old parts.new state.old) }
 {
     let Some(frame) = &state.frame else {
@@ -86,13 +77,11 @@ fn step_join(
     state: &mut AttemptState,
     ordinal: u32,
 ) -> Result<StepLine, Memory>
-    requires { CanFlowIf (λ setup store a. IsAsking program.now.functions (k.Op (o.Join ordinal)) a) program.now.functions parts.old state.old }
-    ensures ok { IfOk result (MovesBy (λ setup store a. IsAsking program.now.functions (k.Op (o.Join ordinal)) a)
-        (λ setup store a. join_step a store (next_sent parts.old.book a.engine) ordinal (result_of (child a.path ordinal) (view parts.old.book a.engine)))
+    requires { CanFlowIf (Asks program.now.functions (k.Op (o.Join ordinal))) program.now.functions parts.old state.old }
+    ensures ok { IfOk result (MovesBy (Asks program.now.functions (k.Op (o.Join ordinal))) (join_move parts.old ordinal)
         program.now.functions parts.old parts.new state.old state.new) }
     ensures err { OnErr result (state.new ≡ state.old) }
-    ensures cut { OnErr result (CutShortBy (λ setup store a. IsAsking program.now.functions (k.Op (o.Join ordinal)) a)
-        (λ setup store a. join_step a store (next_sent parts.old.book a.engine) ordinal (result_of (child a.path ordinal) (view parts.old.book a.engine)))
+    ensures cut { OnErr result (CutShortBy (Asks program.now.functions (k.Op (o.Join ordinal))) (join_move parts.old ordinal)
         program.now.functions parts.old parts.new state.old) }
 {
     let at = state.progress;
@@ -114,29 +103,30 @@ fn send_next(
     state: &mut AttemptState,
     inline: bool,
 ) -> Result<StepLine, Memory>
-    requires { CanFlowIf (λ setup store a. HasScript a) program.now.functions parts.old state.old }
-    ensures ok { IfOk result (MovesBy (λ setup store a. HasScript a)
-        (λ setup store a. asked_move program.now.functions a store (next_sent parts.old.book a.engine) (here_in inline (asked_in state.old.frame)) (asked_in state.old.frame))
+    requires { CanFlowIf HasItsScript program.now.functions parts.old state.old }
+    ensures ok { IfOk result (MovesBy HasItsScript (send_move program.now.functions parts.old inline state.old.frame)
         program.now.functions parts.old parts.new state.old state.new) }
     ensures err { OnErr result (state.new ≡ state.old) }
-    ensures cut { OnErr result (CutShortBy (λ setup store a. HasScript a)
-        (λ setup store a. asked_move program.now.functions a store (next_sent parts.old.book a.engine) (here_in inline (asked_in state.old.frame)) (asked_in state.old.frame))
+    ensures cut { OnErr result (CutShortBy HasItsScript (send_move program.now.functions parts.old inline state.old.frame)
         program.now.functions parts.old parts.new state.old) }
 {
     let Some(frame) = &state.frame else {
         return Ok(StepLine::Idle);
     };
     let ask = frame.ask();
-    let here = if inline { value_written(ask) } else { None };
+    let here = value_here(ask, inline);
     send_asked(
         alloc, program, &mut parts.book, &mut state.progress, ask, here,
     )
 }
 
-/// What is written, where a write is asked.
-fn value_written(ask: &Ask) -> Option<&Value>
-    ensures { option_copied result ≡ here_in true ask.now }
+/// What is written, where a write is asked that is inline.
+fn value_here(ask: &Ask, inline: bool) -> Option<&Value>
+    ensures { option_copied result ≡ here_in inline ask.now }
 {
+    if !inline {
+        return None;
+    }
     match ask {
         Ask::Op(Op::Write { value, .. }) => Some(value),
         _ => None,

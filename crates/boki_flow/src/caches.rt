@@ -1,16 +1,20 @@
 //! What an engine keeps: the switches as far as it has seen them, and the queues and the transactions behind some records.
-ghost use Rattle.std.specs.Prelude.{◌≡◌, ◌+◌, ◌-◌, ◌<◌, ◌≤◌, true, Some, length, IfOk};
+ghost use Rattle.std.specs.Prelude.{◌≡◌, true, Some, IfOk};
 ghost use Rattle.boki_types.specs.declared.plan.Setup.{Setup};
 ghost use Rattle.boki_model.specs.Modes.{mode_after};
 ghost use Rattle.boki_model.specs.Folds.{queues, front, commits, store_values, values_of_names};
 ghost use Rattle.boki_model.specs.Writes.{Store};
 ghost use Rattle.boki_machine.specs.Step.{records_below, is_committed as committed_at};
+ghost use Rattle.book_api.specs.Books.{HasEngine};
 ghost use Rattle.boki_queue.specs.QueueStates.{popped_at};
 ghost use Rattle.boki_txn.specs.TxnStates.{commits_at};
-ghost use Rattle.step_log.specs.Sound.{view};
+ghost use Rattle.hm_switch.specs.SwitchStates.{Follows};
+ghost use Rattle.step_log.specs.Sound.{Sound, view};
 ghost use Rattle.boki_flow.specs.Parts.{HasEngineParts, KeepsParts, PartsStandFor};
 
 use crate::parts::Parts;
+use book_api::Book;
+use hm_switch::SwitchView;
 use lb_base::{List, Memory, Mode, Seqnum, Value, Words};
 
 /// The mode of an invocation that begins at a seqnum.
@@ -21,7 +25,24 @@ pub(crate) fn mode_at(parts: &mut Parts, engine: u32, seq: Seqnum) -> Result<Mod
     ensures parts { KeepsParts parts.old parts.new }
 {
     let switches = &mut parts.switches[(engine - 1) as usize];
-    switches.advance(&parts.book, engine)?;
+    mode_in(switches, &parts.book, engine, seq)
+}
+
+/// The same of a view of switches, which goes on to the engine's position.
+fn mode_in(
+    switches: &mut SwitchView,
+    book: &Book,
+    engine: u32,
+    seq: Seqnum,
+) -> Result<Mode, Memory>
+    requires engine { HasEngine engine book.now }
+    requires sound { Sound book.now }
+    requires follows { Follows book.now engine switches.old }
+    ensures mode { IfOk result (λ mode. mode ≡ mode_after switches.old.first (records_below seq.0 (view book.now engine))) }
+    ensures first { switches.new.first ≡ switches.old.first }
+    ensures follows { Follows book.now engine switches.new }
+{
+    switches.advance(book, engine)?;
     Ok(switches.mode_at(seq))
 }
 

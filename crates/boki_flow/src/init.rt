@@ -1,12 +1,10 @@
 //! An attempt that has adopted nothing yet.
 ghost use Rattle.std.specs.Prelude.{◌≡◌, option_map, OnErr, IfOk};
-ghost use Rattle.boki_model.specs.Modes.{mode_after};
 ghost use Rattle.boki_model.specs.Reads.{nth};
 ghost use Rattle.boki_model.specs.Bodies.{step_tag};
-ghost use Rattle.boki_machine.specs.Step.{records_below, init_step};
-ghost use Rattle.book_api.specs.Books.{HasEngine, next_sent};
+ghost use Rattle.book_api.specs.Books.{HasEngine};
 ghost use Rattle.step_log.specs.Sound.{view};
-ghost use Rattle.boki_flow.specs.Arms.{adopted_init, IsCalled, CanFlowIf, MovesBy, CutShortBy};
+ghost use Rattle.boki_flow.specs.Arms.{CanFlowIf, MovesBy, CutShortBy, IsCalledBy, init_move, adopts_init};
 
 use crate::caches::mode_at;
 use crate::parts::Parts;
@@ -25,13 +23,11 @@ pub(crate) fn step_init(
     state: &mut AttemptState,
     call: &Call,
 ) -> Result<StepLine, Memory>
-    requires { CanFlowIf (λ setup store a. IsCalled parts.old call.now a) program.now.functions parts.old state.old }
-    ensures ok { IfOk result (MovesBy (λ setup store a. IsCalled parts.old call.now a)
-        (λ setup store a. init_step setup program.now.functions a store (view parts.old.book a.engine) (next_sent parts.old.book a.engine) call.now (nth (step_tag a.path) 0 (view parts.old.book a.engine)))
+    requires { CanFlowIf (IsCalledBy parts.old call.now) program.now.functions parts.old state.old }
+    ensures ok { IfOk result (MovesBy (IsCalledBy parts.old call.now) (init_move program.now.functions parts.old call.now)
         program.now.functions parts.old parts.new state.old state.new) }
     ensures err { OnErr result (state.new ≡ state.old) }
-    ensures cut { OnErr result (CutShortBy (λ setup store a. IsCalled parts.old call.now a)
-        (λ setup store a. init_step setup program.now.functions a store (view parts.old.book a.engine) (next_sent parts.old.book a.engine) call.now (nth (step_tag a.path) 0 (view parts.old.book a.engine)))
+    ensures cut { OnErr result (CutShortBy (IsCalledBy parts.old call.now) (init_move program.now.functions parts.old call.now)
         program.now.functions parts.old parts.new state.old) }
 {
     match init_at(alloc, parts, state)? {
@@ -53,7 +49,8 @@ fn init_at(
     state: &AttemptState,
 ) -> Result<Option<Seqnum>, Memory>
     requires { HasEngine state.now.progress.engine parts.now.book }
-    ensures { IfOk result (λ found. option_map (λ s. s.0) found ≡ option_map (λ x. x.seq) (nth (step_tag state.now.progress.path) 0 (view parts.now.book state.now.progress.engine))) }
+    ensures { IfOk result (λ found. option_map (λ s. s.0) found
+        ≡ option_map (λ x. x.seq) (nth (step_tag state.now.progress.path) 0 (view parts.now.book state.now.progress.engine))) }
 {
     let at = &state.progress;
     match record_at(alloc, &parts.book, at.engine, at.path, 0)? {
@@ -74,13 +71,11 @@ fn adopt_init(
     call: &Call,
     seq: Seqnum,
 ) -> Result<StepLine, Memory>
-    requires { CanFlowIf (λ setup store a. IsCalled parts.old call.now a) program.now.functions parts.old state.old }
-    ensures ok { IfOk result (MovesBy (λ setup store a. IsCalled parts.old call.now a)
-        (λ setup store a. adopted_init program.now.functions a store seq.0 call.now (mode_after setup.mode (records_below seq.0 (view parts.old.book a.engine))))
+    requires { CanFlowIf (IsCalledBy parts.old call.now) program.now.functions parts.old state.old }
+    ensures ok { IfOk result (MovesBy (IsCalledBy parts.old call.now) (adopts_init program.now.functions parts.old call.now seq.0)
         program.now.functions parts.old parts.new state.old state.new) }
     ensures err { OnErr result (state.new ≡ state.old) }
-    ensures cut { OnErr result (CutShortBy (λ setup store a. IsCalled parts.old call.now a)
-        (λ setup store a. adopted_init program.now.functions a store seq.0 call.now (mode_after setup.mode (records_below seq.0 (view parts.old.book a.engine))))
+    ensures cut { OnErr result (CutShortBy (IsCalledBy parts.old call.now) (adopts_init program.now.functions parts.old call.now seq.0)
         program.now.functions parts.old parts.new state.old) }
 {
     let mode = mode_at(parts, state.progress.engine, seq)?;
