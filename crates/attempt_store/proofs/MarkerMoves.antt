@@ -1,5 +1,5 @@
 -- A marker that is adopted, by what the store answers.
-use Rattle.std.proofs.Common.{◌≡◌, ℕ, suc, ◌<◌, Bool, true, false, cond, ltb, List, [], ◌∷◌, refl, sym, ap, subst}
+use Rattle.std.proofs.Common.{◌≡◌, ◌∙◌, ◌⊎◌, inr, ℕ, suc, ◌<◌, Bool, true, false, cond, ltb, List, [], ◌∷◌, refl, sym, ap, subst}
 use Rattle.std.specs.Prelude.{zip}
 use Rattle.lb_base.specs.declared.value.Value.{Value}
 use Rattle.lb_base.specs.declared.value.Mode.TheVariants.{R}
@@ -18,11 +18,16 @@ use Rattle.boki_model.specs.Writes.{Store, read_fenced, after_read_fenced, raise
 use Rattle.boki_machine.specs.Attempt.{Attempt, Move, adopts, answered_with}
 use Rattle.boki_machine.specs.Step.{seqnum, stop_gone, fenced_value, read_all, adopts_answer, adopts_marker}
 use Rattle.hm_read.specs.Kept.{IsKept}
-use Rattle.hm_write.specs.Marked.{marked_answer, marked_answers}
+use Rattle.book_api.specs.Books.{BookState}
+use Rattle.hm_write.specs.Marked.{marked_answer, marked_answers, ReadsMarked, ReadsGroupMarked}
+use Rattle.boki_types.specs.declared.store.Answered.{Answered}
+use Rattle.boki_types.specs.declared.store.GroupAnswer.{GroupAnswer}
+use Rattle.attempt_state.specs.declared.progress.Progress.{Progress}
+use Rattle.attempt_state.specs.Progresses.{progress_of, adopted_progress}
 use Rattle.obj_store.specs.Kept.{StoreState}
 use Rattle.attempt_state.specs.declared.state.AttemptState.{AttemptState}
 use Rattle.attempt_state.specs.Attempts.{AttemptStandsFor}
-use Rattle.attempt_store.specs.Moved.{IsMovedAlone, MovesStore}
+use Rattle.attempt_store.specs.Moved.{EitherKept, IsMovedAlone, MovesStore, after_marker}
 
 module _ (fs : List Function) (t : Attempt) (m : Store) (records : List (Live Body)) (seq : ℕ) (keys : List (List ℕ)) (kept : StoreState) (state : AttemptState) (told : StepLine) where
   -- below the floor the store stays, and the attempt stops
@@ -48,6 +53,31 @@ module _ (fs : List Function) (t : Attempt) (m : Store) (records : List (Live Bo
   pub marker_read : (answer : Answer) (l : StepLine) → ltb seq m.floor ≡ false → IsKept kept (after_read_fenced keys seq m) records → told ≡ l
       → AttemptStandsFor fs (answered_with (adopts t seq) answer) state → MovesStore fs records kept (adopts_marker t m seq keys answer l) state told
   marker_read answer l is store said stands = goes_by (ltb seq m.floor) answer l is store said stands
+
+-- what a read at a marker did, by the engine of an attempt that stands there
+module _ (book : BookState) (t : Attempt) (p changed : Progress) (seq : ℕ) (is : changed ≡ adopted_progress seq p) (stands : p ≡ progress_of t) (old new : StoreState) where
+  same_engine : changed.engine ≡ t.engine
+  same_engine = ap (λ (p : Progress). p.engine) is ∙ ap (λ (p : Progress). p.engine) stands
+
+  pub marked_at : (key named : List ℕ) (a : Answered) → named ≡ key → ReadsMarked book changed.engine seq named old new a → ReadsMarked book t.engine seq key old new a
+  marked_at key named a same done =
+      subst (λ (engine : ℕ). ReadsMarked book engine seq key old new a) same_engine (subst (λ (l : List ℕ). ReadsMarked book changed.engine seq l old new a) same done)
+
+  pub group_at : (keys named : List (List ℕ)) (a : GroupAnswer) → named ≡ keys → ReadsGroupMarked book changed.engine seq named old new a → ReadsGroupMarked book t.engine seq keys old new a
+  group_at keys named a same done =
+      subst (λ (engine : ℕ). ReadsGroupMarked book engine seq keys old new a) same_engine (subst (λ (l : List (List ℕ)). ReadsGroupMarked book changed.engine seq l old new a) same done)
+
+-- and the store is at least the one that the marker leaves, also where the attempt can't take the answer
+module _ (m : Store) (records : List (Live Body)) (seq : ℕ) (keys : List (List ℕ)) (kept : StoreState) where
+  pub marker_cut : IsKept kept (after_read_fenced keys seq m) records → EitherKept kept m (after_marker seq keys m) records
+  marker_cut is = at (ltb seq m.floor) is
+    where
+      abbrev raised : Store
+      raised = record m { fences = raise_fences keys seq m.fences }
+
+      at : (low : Bool) → IsKept kept (cond low m raised) records → IsKept kept m records ⊎ IsKept kept (cond low m (cond low m raised)) records
+      at true is = inr is
+      at false is = inr is
 
 -- what the store's answer tells of the floor, and of the value
 pub gone_is_low : (low : Bool) (v : Value) → ans.Gone ≡ cond low ans.Gone (ans.Value v) → low ≡ true

@@ -1,5 +1,5 @@
 -- Moves that leave the book as it is: what is said of the attempt, and of the store.
-use Rattle.std.specs.Prelude.{◌≡◌, ◌⊎◌, ℕ, nat_lt, if◌then◌else◌, List, Option, Some, None}
+use Rattle.std.specs.Prelude.{◌≡◌, ◌⊎◌, ℕ, ◌≤◌, nat_lt, if◌then◌else◌, List, Option, Some, None}
 use Rattle.boki_types.specs.declared.body.Body.{Body}
 use Rattle.boki_types.specs.declared.line.StepLine.{StepLine}
 use Rattle.boki_types.specs.declared.operation.Ask.{Ask}
@@ -9,7 +9,8 @@ use Rattle.boki_model.specs.Writes.{Store, after_read_fenced}
 use Rattle.boki_machine.specs.Attempt.{Move}
 use Rattle.script_run.specs.Frames.{FrameState}
 use Rattle.obj_store.specs.Kept.{StoreState}
-use Rattle.hm_read.specs.Kept.{IsKept}
+use Rattle.book_api.specs.Books.{BookState, position}
+use Rattle.hm_read.specs.Kept.{IsKept, AreKept}
 use Rattle.attempt_state.specs.declared.state.AttemptState.{AttemptState}
 use Rattle.attempt_state.specs.Attempts.{AttemptStandsFor}
 
@@ -17,6 +18,12 @@ use Rattle.attempt_state.specs.Attempts.{AttemptStandsFor}
 abbrev pub FrameAsks : Option FrameState → Ask → Type 0
 FrameAsks None ask = ⊥
 FrameAsks (Some frame) ask = frame.ask ≡ ask
+
+-- The object store is kept with the book for some store, and the engine's position covers the seqnum at which it reads.
+pub record CanReadAt (book : BookState) (kept : StoreState) (engine at : ℕ) : Type 0 where
+  pub store : Store
+  pub are : AreKept book kept store
+  pub covered : at ≤ position book engine
 
 -- A move was made: its line, and the attempt behind it.
 pub record IsMovedAlone (fs : List Function) (move : Move) (kept : AttemptState) (line : StepLine) : Type 0 where

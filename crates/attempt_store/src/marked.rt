@@ -11,7 +11,7 @@ ghost use Rattle.book_api.specs.Books.{HasEngine, position};
 ghost use Rattle.step_log.specs.Sound.{live_bodies, view};
 ghost use Rattle.hm_read.specs.Kept.{AreKept};
 ghost use Rattle.attempt_state.specs.Attempts.{AttemptStandsFor, HasScript};
-ghost use Rattle.attempt_store.specs.Moved.{EitherKept, FrameAsks, MovesStore, after_marker};
+ghost use Rattle.attempt_store.specs.Moved.{CanReadAt, EitherKept, FrameAsks, MovesStore, after_marker};
 
 use crate::reading::pairs_of;
 use crate::taking::take_answer;
@@ -78,6 +78,7 @@ pub fn adopt_group(
     requires few { length program.now.functions < 2 ^ 32 }
     requires room { state.old.progress.answered + 1 < 2 ^ 64 }
     requires asks { FrameAsks state.old.frame (k.Op (o.ReadGroup keys.now)) }
+    requires reads { CanReadAt book.now store.old state.old.progress.engine seq.0 }
     ensures ok { IfOk result (λ told. (m : Store) (t : Attempt) → AreKept book.now store.old m → AttemptStandsFor program.now.functions t state.old
         → HasScript t → seq.0 ≤ position book.now t.engine
         → MovesStore program.now.functions (live_bodies book.now) store.new

@@ -10,7 +10,7 @@ ghost use Rattle.book_api.specs.Books.{HasEngine, position, next_sent};
 ghost use Rattle.step_log.specs.Sound.{view};
 ghost use Rattle.hm_read.specs.Kept.{AreKept};
 ghost use Rattle.attempt_state.specs.Attempts.{AttemptStandsFor, HasScript};
-ghost use Rattle.attempt_store.specs.Moved.{FrameAsks, IsMovedAlone};
+ghost use Rattle.attempt_store.specs.Moved.{CanReadAt, FrameAsks, IsMovedAlone};
 
 use crate::taking::take_answer;
 use attempt_state::{AttemptState, copy_values};
@@ -66,6 +66,7 @@ pub fn free_read_group(
     requires few { length program.now.functions < 2 ^ 32 }
     requires room { state.old.progress.answered + 1 < 2 ^ 64 }
     requires asks { FrameAsks state.old.frame (k.Op (o.ReadGroup keys)) }
+    requires reads { CanReadAt book.now store.now state.old.progress.engine state.old.progress.cursor.0 }
     ensures ok { IfOk result (λ line. (m : Store) (a : Attempt) → AreKept book.now store.now m → AttemptStandsFor program.now.functions a state.old
         → HasScript a → a.cursor ≤ position book.now a.engine
         → IsMovedAlone program.now.functions (reads_group a m (view book.now a.engine) (next_sent book.now a.engine) keys mode.R) state.new line) }

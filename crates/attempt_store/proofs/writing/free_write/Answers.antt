@@ -43,4 +43,4 @@ returns-in-Done-clause-cut c = on_err c.take_answer.result (λ m records a kept 
     let number : c.in-Some.number ≡ suc c.args.state.now.progress.free_writes = omega (arith, c.in-Some.ensures) in
     let is = puts_at a c.args.key c.as_str.result.now c.args.state.now.progress.cursor.0 c.in-Some.number c.args.value c.args.store.now c.put_w.new.store c.in_ok-put_w.field-0
     c.as_str.ensures (ap (λ (p : Progress). p.cursor.0) stands.progress) (number ∙ ap (λ (p : Progress). suc p.free_writes) stands.progress) c.in_ok-put_w.ensures.ok in
-    put_after c.args.program.now.functions a m records c.args.key c.args.value c.put_w.new.store c.args.state.now _ (sym c.in-Done.is ∙ is.answer m records kept) (is.after m records kept))
+    put_after c.args.program.now.functions a m records c.args.key c.args.value c.put_w.new.store c.args.state.now line.StoppedGone (sym c.in-Done.is ∙ is.answer m records kept) (is.after m records kept))
