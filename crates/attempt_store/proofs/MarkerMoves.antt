@@ -72,10 +72,8 @@ module _ (m : Store) (records : List (Live Body)) (seq : ℕ) (keys : List (List
   pub marker_cut : IsKept kept (after_read_fenced keys seq m) records → EitherKept kept m (after_marker seq keys m) records
   marker_cut is = at (ltb seq m.floor) is
     where
-      abbrev raised : Store
-      raised = record m { fences = raise_fences keys seq m.fences }
-
-      at : (low : Bool) → IsKept kept (cond low m raised) records → IsKept kept m records ⊎ IsKept kept (cond low m (cond low m raised)) records
+      at : (low : Bool) → IsKept kept (cond low m (record m { fences = raise_fences keys seq m.fences })) records
+          → IsKept kept m records ⊎ IsKept kept (cond low m (cond low m (record m { fences = raise_fences keys seq m.fences }))) records
       at true is = inr is
       at false is = inr is
 

@@ -16,7 +16,12 @@ use Rattle.boki_model.specs.Live.{Live}
 use Rattle.boki_model.specs.Writes.{Store, read_free}
 use Rattle.boki_machine.specs.Attempt.{Attempt, Move, moves, answered_with}
 use Rattle.boki_machine.specs.Step.{stop_gone, fenced_value, read_all, reads, reads_group}
-use Rattle.hm_read.specs.FreeReads.{free_answer, free_answers}
+use Rattle.boki_types.specs.declared.store.GroupAnswer.{GroupAnswer}
+use Rattle.book_api.specs.Books.{BookState}
+use Rattle.hm_read.specs.FreeReads.{free_answer, free_answers, ReadsGroupFree}
+use Rattle.obj_store.specs.Kept.{StoreState}
+use Rattle.attempt_state.specs.declared.progress.Progress.{Progress}
+use Rattle.attempt_state.specs.Progresses.{progress_of}
 use Rattle.attempt_state.specs.declared.state.AttemptState.{AttemptState}
 use Rattle.attempt_state.specs.Attempts.{AttemptStandsFor}
 use Rattle.attempt_store.specs.Moved.{IsMovedAlone}
@@ -69,3 +74,11 @@ module _ (fs : List Function) (t : Attempt) (m : Store) (view : List (Live Body)
     group_found ws kept told e said stands =
         subst (λ (move : Move). IsMovedAlone fs move kept told) (sym (values_by (ltb t.cursor m.floor) (read_all (λ key. read_free key t.cursor m view) keys) ws e))
         (record { line_is = said; attempt = stands })
+
+-- what a read of several objects answered, by the engine and the cursor of an attempt that stands there
+pub free_group_at :
+    (book : BookState) (kept : StoreState) (t : Attempt) (p : Progress) (keys named : List (List ℕ)) (answer : GroupAnswer)
+    → p ≡ progress_of t → named ≡ keys → ReadsGroupFree book kept p.engine p.cursor.0 named answer → ReadsGroupFree book kept t.engine t.cursor keys answer
+free_group_at book kept t p keys named answer stands same done =
+    subst (λ (p : Progress). ReadsGroupFree book kept p.engine p.cursor.0 keys answer) stands
+    (subst (λ (l : List (List ℕ)). ReadsGroupFree book kept p.engine p.cursor.0 l answer) same done)
