@@ -1,2 +1,4 @@
+pub mod Standing
 pub mod Parts
 pub mod Moves
+pub mod Caches
