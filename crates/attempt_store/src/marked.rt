@@ -41,9 +41,9 @@ pub fn adopt_read(
     ensures ok { IfOk result (λ told. (m : Store) (t : Attempt) → AreKept book.now store.old m → AttemptStandsFor program.now.functions t state.old
         → HasScript t → seq.0 ≤ position book.now t.engine
         → MovesStore program.now.functions (live_bodies book.now) store.new
-            (adopts_marker t m seq.0 (key.now ∷ []) (a.Value (fenced_value (read_fenced key.now seq.0 m (view book.now t.engine))))
-                (line.AdoptRead seq key.now (fenced_value (read_fenced key.now seq.0 m (view book.now t.engine)))))
-            state.new told) }
+        (adopts_marker t m seq.0 (key.now ∷ []) (a.Value (fenced_value (read_fenced key.now seq.0 m (view book.now t.engine))))
+        (line.AdoptRead seq key.now (fenced_value (read_fenced key.now seq.0 m (view book.now t.engine)))))
+        state.new told) }
     ensures err { OnErr result (state.new ≡ state.old) }
     ensures cut { OnErr result ((m : Store) (t : Attempt) → AreKept book.now store.old m → AttemptStandsFor program.now.functions t state.old
         → seq.0 ≤ position book.now t.engine
@@ -82,9 +82,9 @@ pub fn adopt_group(
     ensures ok { IfOk result (λ told. (m : Store) (t : Attempt) → AreKept book.now store.old m → AttemptStandsFor program.now.functions t state.old
         → HasScript t → seq.0 ≤ position book.now t.engine
         → MovesStore program.now.functions (live_bodies book.now) store.new
-            (adopts_marker t m seq.0 keys.now (a.Values (read_all (λ key. read_fenced key seq.0 m (view book.now t.engine)) keys.now))
-                (line.AdoptReadAll seq (zip keys.now (read_all (λ key. read_fenced key seq.0 m (view book.now t.engine)) keys.now))))
-            state.new told) }
+        (adopts_marker t m seq.0 keys.now (a.Values (read_all (λ key. read_fenced key seq.0 m (view book.now t.engine)) keys.now))
+        (line.AdoptReadAll seq (zip keys.now (read_all (λ key. read_fenced key seq.0 m (view book.now t.engine)) keys.now))))
+        state.new told) }
     ensures err { OnErr result (state.new ≡ state.old) }
     ensures cut { OnErr result ((m : Store) (t : Attempt) → AreKept book.now store.old m → AttemptStandsFor program.now.functions t state.old
         → seq.0 ≤ position book.now t.engine

@@ -1,6 +1,6 @@
 -- What a step may take from what stands: its engine, its index, its program, and what its script asks.
 use Rattle.std.proofs.Common.{◌≡◌, ◌∙◌, ◌⊎◌, inl, ℕ, suc, ◌+◌, ◌<◌, ◌≤◌, ◌^◌, List, length, Option, Some, None, Result, Ok, Err, IfOk, OnErr, refl, sym, ap, subst, arith}
-use Rattle.std.proofs.lemmas.Bool.{and_parts, ltb-true, lt-ltb}
+use Rattle.std.proofs.lemmas.Bool.{and_parts, leb-true}
 use Rattle.lb_base.specs.declared.value.Value.{Value}
 use Rattle.boki_types.specs.declared.line.StepLine.{StepLine}
 use Rattle.boki_types.specs.declared.operation.Answer.{Answer}
@@ -13,6 +13,7 @@ use Rattle.boki_model.specs.Script.{next_ask}
 use Rattle.boki_model.specs.Writes.{Store}
 use Rattle.boki_machine.specs.Attempt.{Attempt, Move}
 use Rattle.boki_machine.specs.Step.{attempt_ask}
+use Rattle.script_ranges.specs.Asks.{AreFunctions}
 use Rattle.script_run.specs.Frames.{FrameState, FrameStandsFor}
 use Rattle.book_api.specs.Books.{HasEngine}
 use Rattle.attempt_state.specs.declared.progress.Progress.{Progress}
@@ -54,6 +55,13 @@ moves_as P Q move other fs old new before after (Ok line) same is = λ setup sto
     let alike = same setup store a stands holds in
     subst (λ (m : Move). IsMoved setup fs a.engine m old new after line) alike.1 (is setup store a stands alike.0)
 moves_as P Q move other fs old new before after (Err e) same is = tt
+
+-- a program has few functions
+pub few_functions : (fs : List Function) → AreFunctions fs → length fs < 2 ^ 32
+few_functions fs are =
+    let low = (and_parts _ _ (and_parts _ _ are).0).0 in
+    let le : length fs ≤ 256 = leb-true (length fs) 256 low in
+    omega (arith, le)
 
 module _ (setup : Setup) (fs : List Function) (store : Store) (a : Attempt) (parts : Parts) (kept : AttemptState) (stands : FlowStandsFor setup fs store a parts kept) where
   pub engine_there : HasEngine kept.progress.engine parts.book
