@@ -3,3 +3,4 @@ pub mod Parts
 pub mod Moves
 pub mod Caches
 pub mod Init
+pub mod Asking
