@@ -1,6 +1,6 @@
 pub mod Standing
-pub mod Parts
+pub mod PartsStand
 pub mod Moves
-pub mod Caches
-pub mod Init
-pub mod Asking
+pub mod CacheFolds
+pub mod Beginning
+pub mod SentAsks

@@ -5,7 +5,7 @@ use Rattle.boki_model.specs.Bodies.{in_range}
 use Rattle.attempt_log.specs.Sent.{asked_body}
 use Rattle.boki_flow.specs.Arms.{HasItsScript, send_move}
 use Rattle.boki_flow.proofs.Standing.{weaker_ok, on_err, same_cut, engine_there, index_fits, no_frame, asked_is, few_functions}
-use Rattle.boki_flow.proofs.Asking.{range, has_path, ask_sent}
+use Rattle.boki_flow.proofs.SentAsks.{range, has_path, ask_sent}
 use Rattle.boki_flow.proofs.asking.send_next.Goals as goal
 
 pub send_asked-requires-clause-engine : goal.send_asked-requires-clause-engine

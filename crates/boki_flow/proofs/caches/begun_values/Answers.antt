@@ -4,7 +4,7 @@ use Rattle.fold_cache.specs.Kept.{KeptState}
 use Rattle.boki_txn.specs.Names.{StoredNames}
 use Rattle.boki_txn.specs.TxnStates.{AreTxnFolds}
 use Rattle.boki_flow.proofs.Standing.{weaker_ok}
-use Rattle.boki_flow.proofs.Caches.{all_at, txn_kept}
+use Rattle.boki_flow.proofs.CacheFolds.{all_at, txn_kept}
 use Rattle.boki_flow.proofs.caches.begun_values.Goals as goal
 
 pub snapshot_all-requires-clause-folds : goal.snapshot_all-requires-clause-folds

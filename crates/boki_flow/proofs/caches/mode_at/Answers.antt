@@ -5,7 +5,7 @@ use Rattle.boki_machine.specs.Step.{records_below}
 use Rattle.step_log.specs.Sound.{view}
 use Rattle.hm_switch.specs.SwitchStates.{SwitchState, Follows}
 use Rattle.boki_flow.proofs.Standing.{weaker_ok}
-use Rattle.boki_flow.proofs.Caches.{switch_kept}
+use Rattle.boki_flow.proofs.CacheFolds.{switch_kept}
 use Rattle.boki_flow.proofs.caches.mode_at.Goals as goal
 
 pub mode_in-requires-clause-follows : goal.mode_in-requires-clause-follows

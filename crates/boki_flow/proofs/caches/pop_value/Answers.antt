@@ -3,7 +3,7 @@ use Rattle.step_log.specs.Sound.{live_bodies}
 use Rattle.fold_cache.specs.Kept.{KeptState}
 use Rattle.boki_queue.specs.QueueStates.{QueueState, AreQueueFolds}
 use Rattle.boki_flow.proofs.Standing.{weaker_ok}
-use Rattle.boki_flow.proofs.Caches.{all_at, queue_kept}
+use Rattle.boki_flow.proofs.CacheFolds.{all_at, queue_kept}
 use Rattle.boki_flow.proofs.caches.pop_value.Goals as goal
 
 pub pop_uncounted-requires-clause-folds : goal.pop_uncounted-requires-clause-folds

@@ -6,7 +6,7 @@ use Rattle.step_log.specs.Sound.{view}
 use Rattle.attempt_state.specs.declared.progress.Progress.{Progress}
 use Rattle.boki_flow.specs.Arms.{IsCalledBy, adopts_init}
 use Rattle.boki_flow.proofs.Standing.{on_err, engine_parts, few_functions}
-use Rattle.boki_flow.proofs.Init.{begins, init_adopted, keeps_cut}
+use Rattle.boki_flow.proofs.Beginning.{begins, init_adopted, keeps_cut}
 use Rattle.boki_flow.proofs.init.adopt_init.Goals as goal
 
 pub mode_at-requires : goal.mode_at-requires
