@@ -1,5 +1,5 @@
 -- Each attempt of a machine that is kept can be stepped.
-use Rattle.std.proofs.Common.{◌≡◌, ◌∙◌, inl, inr, ℕ, suc, ◌≤◌, ◌^◌, true, List, [], ◌∷◌, length, map, Some, sym, ap, subst, arith}
+use Rattle.std.proofs.Common.{◌≡◌, ◌∙◌, inl, inr, ⊎_elim, ℕ, zero, suc, ◌≤◌, ◌<◌, ◌^◌, true, List, [], ◌∷◌, length, map, Some, sym, ap, subst, arith}
 use Rattle.std.proofs.lemmas.Bool.{and_parts, ltb-true, lt-ltb}
 use Rattle.std.specs.List.{AllByRecursion}
 use Rattle.std.specs.Prelude.{unwrap_or}
@@ -14,12 +14,14 @@ use Rattle.boki_machine.specs.Step.{attempt_ask}
 use Rattle.boki_machine.specs.Machine.{NumberedAttempt, position}
 use Rattle.exactly_once.specs.FurtherLaws.Words.{values_only, IsAmong}
 use Rattle.boki_model.specs.Live.{upto}
-use Rattle.exactly_once.specs.Induction.Invariant.{World, records, InvariantHolds}
+use Rattle.exactly_once.specs.FurtherLaws.StepRecords.{step_seqnums}
+use Rattle.exactly_once.specs.Induction.Invariant.{World, records, Follows, InvariantHolds}
 use Rattle.exactly_once.specs.Induction.OpeningHolds.{world_of}
 use Rattle.exactly_once.proofs.Attempts.ActingAttempt.{following, up_to, fit_here}
 use Rattle.exactly_once.proofs.Attempts.FreeSteps.{not_fresh}
 use Rattle.exactly_once.proofs.Invocations.NextRecord.{is_called}
-use Rattle.exactly_once.proofs.Invocations.SamePlace.{called_upto}
+use Rattle.exactly_once.proofs.Invocations.RecordAtPlace.{none_begun}
+use Rattle.exactly_once.proofs.Invocations.SamePlace.{called_upto, place_is}
 use Rattle.boki_model.proofs.Logs.{upto-upto}
 use Rattle.script_ranges.specs.Asks.{AreFunctions, is_ask}
 use Rattle.script_ranges.specs.Ranged.{AttemptInRange}
@@ -65,6 +67,18 @@ module _ (setup : Setup) (fs : List Function) (w : World) (holds : InvariantHold
       let is = is_called setup fs (values_only w.store) (up_to setup fs w holds a) a.path (fit_here setup fs w holds a) f.begun in
       record { call = is.call; called = called_upto setup fs (values_only w.store) a.path a.cursor is.call (upto p (records w)) (ap (call_of a.path) (upto-upto a.cursor p (records w) le) ∙ is.called) }
 
+  -- one that has adopted nothing has no answers
+  no_answers : a.place ≡ zero → a.answers ≡ []
+  no_answers none_yet = ⊎_elim (λ fresh. fresh.answers) (λ f. absurd (never f)) (following setup fs w holds a among).follows
+    where
+      never : Follows setup fs (values_only w.store) w.store.fences (up_to setup fs w holds a) a → ⊥
+      never f =
+          let here = up_to setup fs w holds a in
+          let fit = fit_here setup fs w holds a in
+          let some : 0 < length (step_seqnums a.path here) = none_begun setup fs (values_only w.store) a.path here fit f.begun in
+          let none : length (step_seqnums a.path here) ≡ 0 = sym (place_is setup fs (values_only w.store) a.path here fit) ∙ f.place ∙ none_yet in
+          let no_way : ⊥ = omega (arith, some, none) in no_way
+
 pub attempts_can_step : AttemptsCanStep
 attempts_can_step setup fs m a is among =
     let range = among_has (AttemptInRange fs) a m.attempts is.ranged.attempts among in
@@ -73,6 +87,7 @@ attempts_can_step setup fs m a is among =
       program = is.program;
       engine = among_has (λ a. IsEngine setup a.engine) a m.attempts is.engines among;
       range = range;
+      begins = no_answers setup fs (world_of m) is.holds.holds a among;
       asks = can_ask fs is.program a range;
       sees = record {
         calls = λ call called. calls_fit fs call.function call.args (sees.known a.path call called);

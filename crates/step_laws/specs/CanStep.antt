@@ -1,5 +1,5 @@
 -- What a step of an attempt needs of the records that its engine sees, of the store and of the attempt, however they came about.
-use Rattle.std.specs.Prelude.{◌≡◌, ℕ, suc, ◌≤◌, ◌<◌, true, List, Option, Some, unwrap_or, IsTrue}
+use Rattle.std.specs.Prelude.{◌≡◌, ℕ, zero, suc, ◌≤◌, ◌<◌, true, List, [], Option, Some, unwrap_or, IsTrue}
 use Rattle.std.specs.List.{list_all}
 use Rattle.lb_base.specs.declared.value.Value.{Value}
 use Rattle.boki_types.specs.declared.body.Body.{Body}
@@ -76,6 +76,8 @@ pub record CanStep (setup : Setup) (fs : List Function) (store : Store) (records
   pub engine : IsEngine setup a.engine
   -- its path, its arguments and answers are in range, its function takes the arguments, and no counter of it is above its index
   pub range : AttemptInRange fs a
+  -- before it adopts its Init it has no answers
+  pub begins : a.place ≡ zero → a.answers ≡ []
   pub asks : CanAsk fs a
   pub sees : CanAdopt fs store (upto position records) a
   pub may : CanStore store records position a

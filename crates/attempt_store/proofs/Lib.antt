@@ -1,0 +1,5 @@
+pub mod Pairs
+pub mod Results
+pub mod ReadMoves
+pub mod MarkerMoves
+pub mod WriteMoves
