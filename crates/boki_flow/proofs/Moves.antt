@@ -13,10 +13,11 @@ use Rattle.obj_store.specs.Kept.{StoreState}
 use Rattle.attempt_state.specs.declared.state.AttemptState.{AttemptState}
 use Rattle.attempt_log.specs.Moves.{IsAppended, IsAppendedIfAny, IsMovedSent}
 use Rattle.attempt_store.specs.Moved.{IsMovedAlone, MovesStore}
-use Rattle.boki_flow.specs.declared.parts.Parts.{Parts}
-use Rattle.boki_flow.specs.Parts.{PartsStandFor}
+use Rattle.flow_parts.specs.declared.parts.Parts.{Parts}
+use Rattle.flow_parts.specs.Parts.{PartsStandFor}
 use Rattle.boki_flow.specs.Flow.{IsMoved}
-use Rattle.boki_flow.proofs.Parts.{appended_stands, stored_stands}
+use Rattle.flow_parts.proofs.Parts.{stored_stands}
+use Rattle.boki_flow.proofs.Parts.{appended_stands}
 
 module _ (setup : Setup) (fs : List Function) (engine : ℕ) (store : Store) (old : Parts) (stands : PartsStandFor setup store old) (move : Move) (state : AttemptState) (told : StepLine) where
   -- nothing but the attempt changes

@@ -32,8 +32,8 @@ use Rattle.boki_model.specs.Live.{Live}
 use Rattle.boki_types.specs.declared.body.Body.{Body}
 use Rattle.attempt_state.specs.declared.state.AttemptState.{AttemptState}
 use Rattle.attempt_state.specs.Attempts.{HasScript}
-use Rattle.boki_flow.specs.declared.parts.Parts.{Parts}
-use Rattle.boki_flow.specs.Parts.{IsCutShort}
+use Rattle.flow_parts.specs.declared.parts.Parts.{Parts}
+use Rattle.flow_parts.specs.Parts.{IsCutShort}
 use Rattle.boki_flow.specs.Flow.{FlowStandsFor, IsMoved, IsMissed}
 
 -- there is a store and an attempt for which they stand and of which this holds

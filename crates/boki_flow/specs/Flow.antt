@@ -14,9 +14,9 @@ use Rattle.step_log.specs.Sound.{live_bodies, view}
 use Rattle.step_laws.specs.CanStep.{CanStep}
 use Rattle.attempt_state.specs.declared.state.AttemptState.{AttemptState}
 use Rattle.attempt_state.specs.Attempts.{AttemptStandsFor}
-use Rattle.boki_flow.specs.declared.parts.Parts.{Parts}
+use Rattle.flow_parts.specs.declared.parts.Parts.{Parts}
 use Rattle.attempt_log.specs.Moves.{IsAppendedIfAny}
-use Rattle.boki_flow.specs.Parts.{PartsStandFor}
+use Rattle.flow_parts.specs.Parts.{PartsStandFor}
 
 -- The parts and what is kept of an attempt stand for this store and this attempt, and the attempt can be stepped.
 pub record FlowStandsFor

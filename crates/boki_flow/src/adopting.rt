@@ -17,7 +17,7 @@ ghost use Rattle.step_log.specs.Sound.{view};
 ghost use Rattle.boki_flow.specs.Arms.{IsAdopting, IsAnswered, IsTaking, IsTakingCommit, CanFlowIf, MovesBy, CutShortBy, begun_move, committed_move};
 
 use crate::caches::{begun_values, is_committed, pop_value};
-use crate::parts::Parts;
+use flow_parts::Parts;
 use attempt_store::{adopt_group, adopt_read, pairs_of, take_answer};
 use attempt_state::{AttemptState, Progress, child, copy_outcome};
 use boki_types::{Answer, Body, Program, StepLine};

@@ -12,7 +12,7 @@ ghost use Rattle.step_log.specs.Sound.{view};
 ghost use Rattle.attempt_state.specs.Attempts.{HasScript};
 ghost use Rattle.boki_flow.specs.Arms.{CanFlowIf, MovesBy, CutShortBy, IsAsking, asked_in, here_in};
 
-use crate::parts::Parts;
+use flow_parts::Parts;
 use attempt_log::send_asked;
 use attempt_store::{free_read, free_read_group, free_write, store_value};
 use attempt_state::{AttemptState, child, copy_names, is_inline};

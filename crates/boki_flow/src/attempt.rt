@@ -7,12 +7,12 @@ ghost use Rattle.boki_machine.specs.Attempt.{new_attempt};
 ghost use Rattle.boki_machine.specs.Step.{after_kill, after_lose, is_running};
 ghost use Rattle.attempt_state.specs.Progresses.{awaits_record};
 ghost use Rattle.attempt_state.specs.Attempts.{AttemptStandsFor};
-ghost use Rattle.boki_flow.specs.Parts.{IsCutShort};
+ghost use Rattle.flow_parts.specs.Parts.{IsCutShort};
 ghost use Rattle.boki_flow.specs.Flow.{FlowStandsFor, CanFlow, move_of, missed_of, IsMoved, IsMissed};
 
 use crate::cases::step_attempt;
 use crate::missing::miss_attempt;
-use crate::parts::Parts;
+use flow_parts::Parts;
 use attempt_state::AttemptState;
 use boki_types::{Life, Miss, Program, StepLine};
 use lb_base::{Memory, Path};

@@ -8,9 +8,9 @@ ghost use Rattle.boki_machine.specs.Step.{records_below, is_committed as committ
 ghost use Rattle.boki_queue.specs.QueueStates.{popped_at};
 ghost use Rattle.boki_txn.specs.TxnStates.{commits_at};
 ghost use Rattle.step_log.specs.Sound.{view};
-ghost use Rattle.boki_flow.specs.Parts.{HasEngineParts, KeepsParts, PartsStandFor};
+ghost use Rattle.flow_parts.specs.Parts.{HasEngineParts, KeepsParts, PartsStandFor};
 
-use crate::parts::Parts;
+use flow_parts::Parts;
 use lb_base::{List, Memory, Mode, Seqnum, Value, Words};
 
 /// The mode of an invocation that begins at a seqnum.

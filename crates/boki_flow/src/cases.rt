@@ -17,7 +17,7 @@ ghost use Rattle.boki_flow.specs.Flow.{FlowStandsFor, move_of};
 use crate::adopting::adopt;
 use crate::asking::step_script;
 use crate::init::step_init;
-use crate::parts::Parts;
+use flow_parts::Parts;
 use attempt_state::AttemptState;
 use boki_types::{Life, Program, StepLine};
 use lb_base::Memory;

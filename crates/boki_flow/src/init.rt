@@ -9,7 +9,7 @@ ghost use Rattle.step_log.specs.Sound.{view};
 ghost use Rattle.boki_flow.specs.Arms.{adopted_init, IsCalled, CanFlowIf, MovesBy, CutShortBy};
 
 use crate::caches::mode_at;
-use crate::parts::Parts;
+use flow_parts::Parts;
 use attempt_log::send_init;
 use attempt_state::AttemptState;
 use boki_types::{Call, Program, StepLine};

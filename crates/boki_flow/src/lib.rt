@@ -11,8 +11,7 @@ mod caches;
 mod cases;
 mod init;
 mod missing;
-mod parts;
 
 pub use attempt::Attempt;
 pub use boki_types::{Life, Miss, StepLine};
-pub use parts::Parts;
+pub use flow_parts::Parts;

@@ -10,7 +10,7 @@ ghost use Rattle.boki_flow.specs.Arms.{Always, CanFlowIf, IsAnswered, IsAsking, 
 ghost use Rattle.boki_flow.specs.Flow.{missed_of};
 
 use crate::cases::is_answered;
-use crate::parts::Parts;
+use flow_parts::Parts;
 use attempt_state::{AttemptState, is_inline};
 use boki_types::{Answered, Ask, Body, GroupAnswer, Miss, Named, Op, Put};
 use hm_write::{put_w, read_group_marked, read_marked, store_write};

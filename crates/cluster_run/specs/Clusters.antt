@@ -13,8 +13,8 @@ use Rattle.step_log.specs.Sound.{bodies}
 use Rattle.step_laws.specs.Kept.{MachineIsKept, IsTextEvent}
 use Rattle.attempt_state.specs.declared.state.AttemptState.{AttemptState}
 use Rattle.attempt_state.specs.Attempts.{AttemptStandsFor}
-use Rattle.boki_flow.specs.declared.parts.Parts.{Parts}
-use Rattle.boki_flow.specs.Parts.{PartsStandFor}
+use Rattle.flow_parts.specs.declared.parts.Parts.{Parts}
+use Rattle.flow_parts.specs.Parts.{PartsStandFor}
 
 -- The setup and the names of the functions of its plan, by which a report numbers them; the parts; the attempts by their numbers, in
 -- the order in which they were started; and whether a call was cut short, by want of memory, in the middle of an event.

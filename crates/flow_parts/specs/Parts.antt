@@ -11,7 +11,7 @@ use Rattle.hm_write.specs.Sends.{HasOrdered}
 use Rattle.hm_switch.specs.SwitchStates.{SwitchState, Follows}
 use Rattle.boki_queue.specs.QueueStates.{AreQueueFolds}
 use Rattle.boki_txn.specs.TxnStates.{AreTxnFolds}
-use Rattle.boki_flow.specs.declared.parts.Parts.{Parts}
+use Rattle.flow_parts.specs.declared.parts.Parts.{Parts}
 
 -- There are as many shards and engines as the setup says, and each engine has its caches.
 pub record HasSizes (setup : Setup) (parts : Parts) : Type 0 where
