@@ -16,8 +16,8 @@ use Rattle.attempt_store.specs.Moved.{IsMovedAlone, MovesStore}
 use Rattle.flow_parts.specs.declared.parts.Parts.{Parts}
 use Rattle.flow_parts.specs.Parts.{PartsStandFor}
 use Rattle.boki_flow.specs.Flow.{IsMoved}
-use Rattle.flow_parts.proofs.Parts.{stored_stands}
-use Rattle.boki_flow.proofs.Parts.{appended_stands}
+use Rattle.flow_parts.proofs.Appended.{stored_stands}
+use Rattle.boki_flow.proofs.Appended.{appended_stands}
 
 module _ (setup : Setup) (fs : List Function) (engine : ℕ) (store : Store) (old : Parts) (stands : PartsStandFor setup store old) (move : Move) (state : AttemptState) (told : StepLine) where
   -- nothing but the attempt changes

@@ -9,7 +9,7 @@ use Rattle.step_log.specs.Sound.{record_of, Sound}
 use Rattle.attempt_log.specs.Moves.{IsAppended}
 use Rattle.flow_parts.specs.declared.parts.Parts.{Parts}
 use Rattle.flow_parts.specs.Parts.{PartsStandFor}
-use Rattle.flow_parts.proofs.Parts as parts
+use Rattle.flow_parts.proofs.Appended as parts
 
 pub appended_stands : (setup : Setup) (store : Store) (old : Parts) → PartsStandFor setup store old → (engine : ℕ) (r : LogRecord Body) (book : BookState)
     → IsAppended engine r old.book book → Sound book → PartsStandFor setup store (record old { book = book })

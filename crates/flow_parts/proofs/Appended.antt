@@ -56,12 +56,15 @@ module _ (setup : Setup) (store : Store) (old : Parts) (stands : PartsStandFor s
       newer = stands.newer;
     }
 
-  -- a record that is appended is in no live list yet
+  -- a record that is appended is in no list yet
+  pub log_same : (engine : ℕ) (r : Record) → order (bodies (appended engine r old.book)) old.book.vectors ≡ order (bodies old.book) old.book.vectors
+  log_same engine r =
+      ap (λ (shards : List (List (LogRecord Body))). order shards old.book.vectors) (sym ((ordered_alike (decoded_record body_of) old.book.shards).one_more (home_shard old.book engine - 1) r))
+      ∙ order_stays (home_shard old.book engine - 1) (decoded_record body_of r) (bodies old.book) old.book.vectors stands.ordered.grow
+      ((ordered_alike (decoded_record body_of) old.book.shards).have (last_vector old.book.vectors) stands.ordered.have)
+
   pub live_same : (engine : ℕ) (r : Record) → live_bodies (appended engine r old.book) ≡ live_bodies old.book
-  live_same engine r =
-      ap (λ (shards : List (List (LogRecord Body))). live (order shards old.book.vectors)) (sym ((ordered_alike (decoded_record body_of) old.book.shards).one_more (home_shard old.book engine - 1) r))
-      ∙ ap live (order_stays (home_shard old.book engine - 1) (decoded_record body_of r) (bodies old.book) old.book.vectors stands.ordered.grow
-      ((ordered_alike (decoded_record body_of) old.book.shards).have (last_vector old.book.vectors) stands.ordered.have))
+  live_same engine r = ap live (log_same engine r)
 
   pub still_ordered : (engine : ℕ) (r : Record) → HasOrdered (appended engine r old.book)
   still_ordered engine r =

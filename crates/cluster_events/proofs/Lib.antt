@@ -1,0 +1,9 @@
+pub mod Machines
+pub mod Done
+pub mod Copies
+pub mod Cuts
+pub mod Catches
+pub mod Sends
+pub mod AuxData
+pub mod LiveFound
+pub mod ReadLines
