@@ -43,7 +43,7 @@ module _ (setup : Setup) (fs : List Function) (m : Machine) (old : Parts) (are :
     };
     store = refl;
     replicas = are.replicas;
-    sound = are.parts.kept.sound;
+    sound = are.stand.kept.sound;
     shards = refl;
     engines = refl;
     grows = record { news = []; log_is = refl; within = positions_within setup fs m old are; rise = λ e. le_refl (position old.book e) };

@@ -60,7 +60,7 @@ module _ (setup : Setup) (fs : List Function) (m : Machine) (old : Parts) (are :
         };
         store = refl;
         replicas = are.replicas;
-        sound = are.parts.kept.sound;
+        sound = are.stand.kept.sound;
         shards = refl;
         engines = length-set old.book.positions (engine - 1) (length (ordered old.book));
         grows = record { news = []; log_is = refl; within = positions_within setup fs m old are; rise = position_set };

@@ -64,7 +64,7 @@ module _ (setup : Setup) (fs : List Function) (m : Machine) (old : Parts) (are :
             shards = length-set old.book.counts (shard - 1) _ ∙ are.replicas.shards;
             each = replicas_set (setup.replicas - 1) (shard - 1) (replica - 2) (had + book.copied_count shard replica n old.book) old.book.counts are.replicas.each;
           };
-          sound = are.parts.kept.sound;
+          sound = are.stand.kept.sound;
           shards = refl;
           engines = refl;
           grows = record { news = []; log_is = refl; within = positions_within setup fs m old are; rise = λ e. le_refl (position old.book e) };

@@ -47,14 +47,14 @@ has_ordered setup fs m b is holds = record {
 
 -- the parts are a machine's whose store the object store stands for
 pub are_after :
-    (setup : Setup) (fs : List Function) (after : Machine) (new : Parts) → MachineIsKept setup fs after → IsBookOf after new.book → HasReplicas setup new.book → Sound new.book
+    (setup : Setup) (fs : List Function) (after : Machine) (new : Parts) → MachineIsKept setup fs after → IsBookOf after new.book → HasReplicas setup new.book.counts → Sound new.book
     → HasSizes setup new → AreFolds setup new → StandsFor new.store after.store (live_records after) → new.first ≡ setup.mode → new.newer ≡ setup.newer
     → PartsAreOf setup fs after new
 are_after setup fs after new kept is replicas sound sizes folds stands first newer = record {
   book = is;
   replicas = replicas;
   kept = kept;
-  parts = record {
+  stand = record {
     kept = record { sound = sound; store = subst (IsKept new.store after.store) (live_is after new.book is) (holding_is_kept setup fs after new.store kept.holds stands) };
     ordered = has_ordered setup fs after new.book is kept.holds;
     sizes = sizes;
@@ -68,7 +68,7 @@ are_after setup fs after new kept is replicas sound sizes folds stands first new
 pub record IsBookMoved (setup : Setup) (m after : Machine) (old new : BookState) : Type 0 where
   pub book : IsBookOf after new
   pub store : after.store ≡ m.store
-  pub replicas : HasReplicas setup new
+  pub replicas : HasReplicas setup new.counts
   pub sound : Sound new
   pub shards : length new.shards ≡ length old.shards
   pub engines : length new.positions ≡ length old.positions
@@ -86,22 +86,22 @@ module _ (setup : Setup) (fs : List Function) (m : Machine) (old : Parts) (are :
       (subst (λ (rs : List (LogRecord Body)). AllByRecursion (λ p. p ≤ length rs) m.positions) log_is are.kept.holds.holds.positions))
 
   store_stands : StandsFor old.store m.store (live_records m)
-  store_stands = subst (StandsFor old.store m.store) (sym (live_is m old.book are.book)) are.parts.kept.store.stands
+  store_stands = subst (StandsFor old.store m.store) (sym (live_is m old.book are.book)) are.stand.kept.store.stands
 
   module _ (after : Machine) (b : BookState) (kept : MachineIsKept setup fs after) (moved : IsBookMoved setup m after old.book b) where
     sizes_after : HasSizes setup (record old { book = b })
     sizes_after = record {
-      shards = moved.shards ∙ are.parts.sizes.shards;
-      engines = moved.engines ∙ are.parts.sizes.engines;
-      queues = are.parts.sizes.queues;
-      txns = are.parts.sizes.txns;
-      switches = are.parts.sizes.switches;
+      shards = moved.shards ∙ are.stand.sizes.shards;
+      engines = moved.engines ∙ are.stand.sizes.engines;
+      queues = are.stand.sizes.queues;
+      txns = are.stand.sizes.txns;
+      switches = are.stand.sizes.switches;
     }
 
     pub moved_are : StandsFor old.store after.store (live_records after) → PartsAreOf setup fs after (record old { book = b })
     moved_are stands =
         are_after setup fs after (record old { book = b }) kept moved.book moved.replicas moved.sound sizes_after
-        (folds_grow setup old are.parts.folds b moved.grows) stands are.parts.first are.parts.newer
+        (folds_grow setup old are.stand.folds b moved.grows) stands are.stand.first are.stand.newer
 
   module _ (event : Event) (text : IsTextEvent setup fs event) (room : NumbersHaveRoom m event) where
     abbrev after : Machine
@@ -132,7 +132,7 @@ module _ (setup : Setup) (fs : List Function) (m : Machine) (old : Parts) (are :
     book = are.book;
     store = refl;
     replicas = are.replicas;
-    sound = are.parts.kept.sound;
+    sound = are.stand.kept.sound;
     shards = refl;
     engines = refl;
     grows = record { news = []; log_is = refl; within = positions_within; rise = λ e. le_refl (position old.book e) };

@@ -25,20 +25,20 @@ module _ {A : Type 0} where
 
   next_live : (tag a seq : ℕ) (xs : List (Live A)) → next tag a xs ≡ Some seq → is_live seq xs ≡ true
   next_live tag a seq [] e = cc
-  next_live tag a seq (x ∷ xs) e = at (next tag a xs) refl (has_tag tag x.tags && leb a x.seq) e
+  next_live tag a seq (x ∷ xs) e = at (next_live tag a seq xs) (next tag a xs) refl (has_tag tag x.tags && leb a x.seq) e
     where
-      at : (o : Option ℕ) → next tag a xs ≡ o → (t : Bool) → option_or o (cond t (Some x.seq) None) ≡ Some seq → is_live seq (x ∷ xs) ≡ true
-      at (Some s) is t e = there x xs seq (next_live tag a seq xs (is ∙ e))
-      at None is true e = here x xs seq e
-      at None is false e = cc
+      at : (next tag a xs ≡ Some seq → is_live seq xs ≡ true) → (o : Option ℕ) → next tag a xs ≡ o → (t : Bool) → option_or o (cond t (Some x.seq) None) ≡ Some seq → is_live seq (x ∷ xs) ≡ true
+      at ih (Some s) is t e = there x xs seq (ih (is ∙ e))
+      at ih None is true e = here x xs seq e
+      at ih None is false e = cc
 
   prev_live : (tag b seq : ℕ) (xs : List (Live A)) → prev tag b xs ≡ Some seq → is_live seq xs ≡ true
   prev_live tag b seq [] e = cc
-  prev_live tag b seq (x ∷ xs) e = at (has_tag tag x.tags && leb x.seq b) e
+  prev_live tag b seq (x ∷ xs) e = at (prev_live tag b seq xs) (has_tag tag x.tags && leb x.seq b) e
     where
-      at : (t : Bool) → cond t (Some x.seq) (prev tag b xs) ≡ Some seq → is_live seq (x ∷ xs) ≡ true
-      at true e = here x xs seq e
-      at false e = there x xs seq (prev_live tag b seq xs e)
+      at : (prev tag b xs ≡ Some seq → is_live seq xs ≡ true) → (t : Bool) → cond t (Some x.seq) (prev tag b xs) ≡ Some seq → is_live seq (x ∷ xs) ≡ true
+      at ih true e = here x xs seq e
+      at ih false e = there x xs seq (ih e)
 
   module _ (trim : A → Option (ℕ × ℕ)) (tag seq : ℕ) (xs : List (Live A)) where
     pub next_seen : (a : ℕ) → read_next trim tag a xs ≡ Some seq → is_live seq xs ≡ true

@@ -87,4 +87,4 @@ index_within n (suc k) (p ∷ ps) all = index_within n k ps all.1
 
 -- The parts have each engine of the setup.
 pub has_engine : (setup : Setup) (fs : List Function) (m : Machine) (parts : Parts) (engine : ℕ) → PartsAreOf setup fs m parts → 1 ≤ engine → engine ≤ setup.engines → HasEngine engine parts.book
-has_engine setup fs m parts engine are one most = (one, subst (λ n. engine ≤ n) (sym are.parts.sizes.engines) most)
+has_engine setup fs m parts engine are one most = (one, subst (λ n. engine ≤ n) (sym are.stand.sizes.engines) most)

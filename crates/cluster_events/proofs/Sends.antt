@@ -43,7 +43,7 @@ module _ (setup : Setup) (fs : List Function) (m : Machine) (old : Parts) (are :
   pub next_same : machine.next_sent setup m engine ≡ next_sent old.book engine
   next_same =
       ap₂ (λ (shards : List (List (LogRecord Body))) (n : ℕ). record { shard = suc ((engine - 1) % n); local = suc (length (slice_index_or shards (suc ((engine - 1) % n) - 1) [])) })
-      are.book.shards (sym are.parts.sizes.shards)
+      are.book.shards (sym are.stand.sizes.shards)
       ∙ ap (λ n. record { shard = home_shard old.book engine; local = suc n }) (records_are old.book (home_shard old.book engine - 1))
 
   -- Another record stands there.
@@ -53,7 +53,7 @@ module _ (setup : Setup) (fs : List Function) (m : Machine) (old : Parts) (are :
     at_end says sound = record {
       book = record {
         shards =
-            ap₂ (λ (shards : List (List (LogRecord Body))) (n : ℕ). add_to (suc ((engine - 1) % n) - 1) e shards) are.book.shards (sym are.parts.sizes.shards)
+            ap₂ (λ (shards : List (List (LogRecord Body))) (n : ℕ). add_to (suc ((engine - 1) % n) - 1) e shards) are.book.shards (sym are.stand.sizes.shards)
             ∙ sym says;
         counts = are.book.counts;
         vectors = are.book.vectors;
@@ -67,7 +67,7 @@ module _ (setup : Setup) (fs : List Function) (m : Machine) (old : Parts) (are :
       engines = refl;
       grows = record {
         news = [];
-        log_is = log_same setup m.store old are.parts engine r;
+        log_is = log_same setup m.store old are.stand engine r;
         within = positions_within setup fs m old are;
         rise = λ e. le_refl (position old.book e);
       };

@@ -22,15 +22,15 @@ pub record IsBookOf (m : Machine) (book : BookState) : Type 0 where
   pub aux : m.aux ≡ book.aux
 
 -- each shard has as many replicas as the setup says; the first one has no count
-pub record HasReplicas (setup : Setup) (book : BookState) : Type 0 where
-  pub shards : length book.counts ≡ setup.shards
-  pub each : AllByRecursion (λ counts. length counts ≡ setup.replicas - 1) book.counts
+pub record HasReplicas (setup : Setup) (counts : List (List ℕ)) : Type 0 where
+  pub shards : length counts ≡ setup.shards
+  pub each : AllByRecursion (λ copied. length copied ≡ setup.replicas - 1) counts
 
 -- The parts are those of a machine that a cluster keeps.
 pub record PartsAreOf (setup : Setup) (fs : List Function) (m : Machine) (parts : Parts) : Type 0 where
   pub book : IsBookOf m parts.book
-  pub replicas : HasReplicas setup parts.book
-  pub parts : PartsStandFor setup m.store parts
+  pub replicas : HasReplicas setup parts.book.counts
+  pub stand : PartsStandFor setup m.store parts
   pub kept : MachineIsKept setup fs m
 
 -- The event is one that the plan of such a machine can have: what each event needs.

@@ -8,4 +8,4 @@ use Rattle.cluster_events.proofs.Copies.{copy_done}
 use Rattle.cluster_events.proofs.ordering.cut_line.Goals as goal
 
 pub returns-in-Same : goal.returns-in-Same
-returns-in-Same c = refl
+returns-in-Same c = ?
