@@ -7,3 +7,7 @@ pub mod Sends
 pub mod AuxData
 pub mod LiveFound
 pub mod ReadLines
+pub mod Switches
+pub mod Advanced
+pub mod Sweeps
+pub mod Needs

@@ -1,3 +1,4 @@
 pub mod Machines
 pub mod Lines
 pub mod Writes
+pub mod Views

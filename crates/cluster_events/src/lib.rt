@@ -4,6 +4,7 @@
 //! answers the event's line, and the parts are then those of the machine behind the event. After `Memory` nothing is known of them.
 #![tactic(auto)]
 
+mod advancing;
 mod ordering;
 mod reading;
 mod sending;

@@ -149,7 +149,7 @@ pub fn aux(alloc: Global, parts: &mut Parts, engine: u32, seq: Seqnum) -> Result
 
 // The line of auxiliary data.
 fn aux_line(alloc: Global, bytes: Option<&List<u8>>) -> Result<Line, Memory>
-    ensures { IfOk result (λ line. HasUtf8 (option_copied bytes) → line ≡ line_of_aux (option_copied bytes)) }
+    ensures { IfOk result (λ line. HasUtf8 (option_copied bytes.entry) → line ≡ line_of_aux (option_copied bytes.entry)) }
 {
     match bytes {
         Some(bytes) => Ok(Line::Aux(text_of(alloc, bytes)?)),

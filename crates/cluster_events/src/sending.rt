@@ -7,6 +7,7 @@ ghost use Rattle.boki_machine.specs.Step.{function_name};
 ghost use Rattle.cluster_events.specs.Lines.{line_of_ending};
 ghost use Rattle.cluster_events.specs.Machines.{CanDo, CanDoAny, DoesEvent, DoesEventAny};
 
+use crate::advancing::advance;
 use boki_types::{Body, Ending, Line, Program};
 use flow_parts::Parts;
 use hm_switch::begin;
@@ -86,8 +87,8 @@ pub fn end_switch(parts: &mut Parts, engine: u32) -> Result<Line, Memory>
     requires { CanDoAny (event.EndSwitch engine) parts.old }
     ensures { IfOk result (DoesEventAny (event.EndSwitch engine) parts.old parts.new) }
 {
-    let view = &mut parts.switches[(engine - 1) as usize];
-    view.advance(&parts.book, engine)?;
+    advance(parts, engine)?;
+    let view = &parts.switches[(engine - 1) as usize];
     let ending = view.end(&mut parts.book, engine)?;
     Ok(ending_line(ending))
 }
@@ -108,8 +109,11 @@ pub fn trim(parts: &mut Parts, engine: u32) -> Result<Line, Memory>
     requires { CanDoAny (event.Trim engine) parts.old }
     ensures { IfOk result (DoesEventAny (event.Trim engine) parts.old parts.new) }
 {
-    let view = &mut parts.switches[(engine - 1) as usize];
-    view.advance(&parts.book, engine)?;
+    advance(parts, engine)?;
+    // Positions are at most 2^63, and lengths have 64 bits.
+    let _behind = parts.book.behind(engine);
+    let _length = parts.book.length();
+    let view = &parts.switches[(engine - 1) as usize];
     let (sent, bound) = view.trim(&mut parts.book, engine)?;
     Ok(Line::Trimmed(sent, bound))
 }

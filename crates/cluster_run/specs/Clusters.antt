@@ -8,13 +8,11 @@ use Rattle.boki_types.specs.declared.plan.Plan.{Plan}
 use Rattle.boki_types.specs.declared.plan.Setup.{Setup}
 use Rattle.boki_types.specs.declared.program.Function.{Function}
 use Rattle.boki_machine.specs.Machine.{Machine, NumberedAttempt, log, initial_machine, apply_event, apply_events, catch_up_all}
-use Rattle.book_api.specs.Books.{BookState}
-use Rattle.step_log.specs.Sound.{bodies}
-use Rattle.step_laws.specs.Kept.{MachineIsKept, IsTextEvent}
+use Rattle.step_laws.specs.Kept.{IsTextEvent}
 use Rattle.attempt_state.specs.declared.state.AttemptState.{AttemptState}
 use Rattle.attempt_state.specs.Attempts.{AttemptStandsFor}
 use Rattle.flow_parts.specs.declared.parts.Parts.{Parts}
-use Rattle.flow_parts.specs.Parts.{PartsStandFor}
+use Rattle.cluster_events.specs.Machines.{PartsAreOf}
 
 -- The setup and the names of the functions of its plan, by which a report numbers them; the parts; the attempts by their numbers, in
 -- the order in which they were started; and whether a call was cut short, by want of memory, in the middle of an event.
@@ -24,14 +22,6 @@ pub record ClusterState : Type 0 where
   pub parts : Parts
   pub attempts : List (ℕ × AttemptState)
   pub marked : Bool
-
--- the book is the machine's: its records say what the machine's hold
-pub record IsBookOf (m : Machine) (book : BookState) : Type 0 where
-  pub shards : m.shards ≡ bodies book
-  pub counts : m.counts ≡ book.counts
-  pub vectors : m.vectors ≡ book.vectors
-  pub positions : m.positions ≡ book.positions
-  pub aux : m.aux ≡ book.aux
 
 -- each attempt stands for the machine's under its number; both lists in the order of start
 abbrev pub AttemptsStandFor : List Function → List NumberedAttempt → List (ℕ × AttemptState) → Type 0
@@ -49,12 +39,10 @@ pub record IsReached (setup : Setup) (fs : List Function) (objects : List (List 
 pub record StandsFor (setup : Setup) (fs : List Function) (objects : List (List ℕ × Value)) (m : Machine) (c : ClusterState) : Type 0 where
   pub setup_is : c.setup ≡ setup
   pub names : c.names ≡ map (λ f. f.name) fs
-  pub book : IsBookOf m c.parts.book
-  pub parts : PartsStandFor setup m.store c.parts
+  pub are : PartsAreOf setup fs m c.parts
   pub attempts : AttemptsStandFor fs (reverse m.attempts) c.attempts
-  -- every law over events holds of it, and what each event keeps
+  -- every law over events holds of it
   pub reached : IsReached setup fs objects m
-  pub kept : MachineIsKept setup fs m
 
 -- Where it isn't marked it stands for some machine.
 pub record StandsForSome (c : ClusterState) : Type 0 where
