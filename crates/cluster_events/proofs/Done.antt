@@ -85,7 +85,7 @@ module _ (setup : Setup) (fs : List Function) (m : Machine) (old : Parts) (are :
       (subst (λ (ps : List ℕ). AllByRecursion (λ p. p ≤ length (log_bodies old.book)) ps) are.book.positions
       (subst (λ (rs : List (LogRecord Body)). AllByRecursion (λ p. p ≤ length rs) m.positions) log_is are.kept.holds.holds.positions))
 
-  store_stands : StandsFor old.store m.store (live_records m)
+  pub store_stands : StandsFor old.store m.store (live_records m)
   store_stands = subst (StandsFor old.store m.store) (sym (live_is m old.book are.book)) are.stand.kept.store.stands
 
   module _ (after : Machine) (b : BookState) (kept : MachineIsKept setup fs after) (moved : IsBookMoved setup m after old.book b) where

@@ -11,3 +11,8 @@ pub mod Switches
 pub mod Advanced
 pub mod Sweeps
 pub mod Needs
+pub mod Opened
+pub mod Restarted
+pub mod CatchAll
+pub mod Said
+pub mod Submits

@@ -1,5 +1,5 @@
 -- Events that send a record.
-use Rattle.std.proofs.Common.{◌≡◌, ◌∙◌, ℕ, suc, ◌-◌, ◌%◌, ◌≤◌, true, List, [], ◌∷◌, Option, Some, None, length, refl, sym, ap, ap₂, subst, length-set}
+use Rattle.std.proofs.Common.{◌≡◌, ◌∙◌, ℕ, suc, ◌-◌, ◌%◌, ◌≤◌, ◌&&◌, leb, arith, true, List, [], ◌∷◌, Option, Some, None, length, refl, sym, ap, ap₂, subst, length-set}
 use Rattle.std.specs.Prelude.{slice_index_or}
 use Rattle.std.proofs.Math.Nat.{le_refl}
 use Rattle.std.specs.Str.{IsUtf8}
@@ -22,7 +22,11 @@ use Rattle.boki_model.specs.Bodies.{tags_of, tag_of, path_number}
 use Rattle.boki_model.specs.declared.tag_classes.TheConstants.{CALL_CLASS}
 use Rattle.boki_model.specs.Live.{LogRecord}
 use Rattle.boki_model.specs.OrderLaws.{add_to}
-use Rattle.boki_model.specs.Plans.{is_event}
+use Rattle.boki_model.specs.Bodies.{is_u64}
+use Rattle.boki_model.specs.Plans.{is_event, is_from_one_to, in_bounds, is_user_tag, are_user_tags, is_text}
+use Rattle.boki_model.specs.declared.limits.TheConstants.{MAX_LIST_ITEMS}
+use Rattle.std.specs.List.{list_all}
+use Rattle.std.proofs.lemmas.Bool.{and_parts, leb-true}
 use Rattle.boki_machine.specs.Machine as machine
 use Rattle.boki_machine.specs.Machine.{Machine, EventResult, first_tag, apply_event}
 use Rattle.boki_machine.specs.Step.{function_name}
@@ -138,3 +142,33 @@ module _ (setup : Setup) (fs : List Function) (m : Machine) (old : Parts) (are :
   cond_done place tags text valid bytes utf8 is =
       user_done setup fs m old are engine b sound (event.Cond engine place tags text) (record { valid = valid; bytes = bytes; text = utf8 }) tt
       (Some (record { tag = first_tag tags; place = place })) tags text sent is refl
+
+  pub append_said :
+      (tags told : List Tag) (text bytes : List ℕ) → is_event setup fs (event.Append engine tags text) ≡ true → told ≡ tags → bytes ≡ text → are_bytes bytes ≡ true → IsUtf8 text → IsUserSent engine None told bytes old.book b sent
+      → IsEventDone setup fs (event.Append engine tags text) m (record old { book = b }) (line.Sent sent)
+  append_said tags told text bytes valid t s are_all utf8 is =
+      append_done tags text valid (ap are_bytes (sym s) ∙ are_all) utf8
+      (subst (λ (l : List Tag). IsUserSent engine None l text old.book b sent) t (subst (λ (l : List ℕ). IsUserSent engine None told l old.book b sent) s is))
+
+  pub cond_said :
+      (tags told : List Tag) (text bytes : List ℕ) (place : ℕ) (tag : Tag) → is_event setup fs (event.Cond engine place tags text) ≡ true → tag ≡ first_tag tags → told ≡ tags → bytes ≡ text → are_bytes bytes ≡ true → IsUtf8 text
+      → IsUserSent engine (Some (record { tag = tag; place = place })) told bytes old.book b sent
+      → IsEventDone setup fs (event.Cond engine place tags text) m (record old { book = b }) (line.Sent sent)
+  cond_said tags told text bytes place tag valid f t s are_all utf8 is =
+      cond_done place tags text valid (ap are_bytes (sym s) ∙ are_all) utf8
+      (subst (λ (x : Tag). IsUserSent engine (Some (record { tag = x; place = place })) tags text old.book b sent) f
+      (subst (λ (l : List Tag). IsUserSent engine (Some (record { tag = tag; place = place })) l text old.book b sent) t
+      (subst (λ (l : List ℕ). IsUserSent engine (Some (record { tag = tag; place = place })) told l old.book b sent) s is)))
+
+-- the first of some tags
+first_there : (tags : List Tag) (d : Tag) → 1 ≤ length tags → slice_index_or tags 0 d ≡ first_tag tags
+first_there [] d le = absurd (let no : ⊥ = omega (arith, le) in no)
+first_there (t ∷ ts) d le = refl
+
+pub first_is : (setup : Setup) (fs : List Function) (engine place : ℕ) (tags : List Tag) (text : List ℕ) (told : List Tag) (d : Tag) → told ≡ tags → is_event setup fs (event.Cond engine place tags text) ≡ true
+    → slice_index_or told 0 d ≡ first_tag tags
+first_is setup fs engine place tags text told d same ok =
+    let most = is_from_one_to setup.engines engine && is_u64 place in
+    let own = (and_parts most (are_user_tags tags) (and_parts (most && are_user_tags tags) (is_text text) ok).0).1 in
+    let some = (and_parts (in_bounds 1 MAX_LIST_ITEMS (length tags)) (list_all is_user_tag tags) own).0 in
+    ap (λ (l : List Tag). slice_index_or l 0 d) same ∙ first_there tags d (leb-true 1 (length tags) (and_parts (leb 1 (length tags)) (leb (length tags) MAX_LIST_ITEMS) some).0)

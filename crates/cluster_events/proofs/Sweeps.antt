@@ -16,7 +16,7 @@ use Rattle.boki_types.specs.declared.plan.Setup.{Setup}
 use Rattle.boki_types.specs.declared.program.Function.{Function}
 use Rattle.boki_types.specs.declared.store.Name.{Name}
 use Rattle.boki_types.specs.declared.store.Settled.{Settled}
-use Rattle.boki_model.specs.Floor.{floor, counted_trim, all_ended}
+use Rattle.boki_model.specs.Floor.{floor, counted_trim}
 use Rattle.boki_model.specs.Live.{Live, live, upto}
 use Rattle.boki_model.specs.LogLaws.{FallBelow}
 use Rattle.boki_model.specs.Plans.{is_event}
@@ -43,13 +43,13 @@ use Rattle.cluster_events.proofs.ReadLines.{view_same}
 
 -- The floor is at most the seqnum of a record.
 
+at_most : (t u : Bool) (w n : ℕ) → (t ≡ true → w ≤ n) → cond (t && u) w 0 ≤ n
+at_most true true w n le = le refl
+at_most true false w n le = omega arith
+at_most false u w n le = omega arith
+
 counted_within : (says : Body) (seq n : ℕ) (past : List (Live Body)) → seq ≤ n → counted_trim says seq past ≤ n
-counted_within (b.Trim w) seq n past le = at (leb w seq) refl (all_ended w past)
-  where
-    at : (t : Bool) → leb w seq ≡ t → (e : Bool) → cond (t && e) w 0 ≤ n
-    at true is true = let low : w ≤ seq = leb-true w seq is in omega (arith, low, le)
-    at true is false = omega arith
-    at false is e = omega arith
+counted_within (b.Trim w) seq n past le = at_most (leb w seq) _ w n (λ is. let low : w ≤ seq = leb-true w seq is in omega (arith, low, le))
 counted_within _ seq n past le = omega arith
 
 floor_below : (n : ℕ) (xs : List (Live Body)) → FallBelow (suc n) xs → floor xs ≤ n
@@ -144,14 +144,14 @@ module _ (low : ℕ) where
 -- The event.
 
 module _ (setup : Setup) (fs : List Function) (m : Machine) (old : Parts) (are : PartsAreOf setup fs m old) (engine : ℕ) (valid : is_event setup fs (event.Sweep engine) ≡ true) where
-  bound : ℕ
+  abbrev pub bound : ℕ
   bound = floor (view old.book engine)
 
   text : IsTextEvent setup fs (event.Sweep engine)
   text = record { valid = valid; bytes = refl; text = tt }
 
   -- the machine's sweep
-  swept_at : ℕ → EventResult
+  abbrev swept_at : ℕ → EventResult
   swept_at low =
       event_result (record m { store = after_sweep low m.store })
       (line.Floor (seqnum (after_sweep low m.store).floor) (held_count (after_sweep low m.store) (live_records m)))
@@ -178,7 +178,7 @@ module _ (setup : Setup) (fs : List Function) (m : Machine) (old : Parts) (are :
         (swept_have_values old.store m.store (live_records m) m.store.floor bound (store_stands setup fs m old are)
         (subst (WritesHaveValues m.store.named) (sym (live_is m old.book are.book)) are.stand.kept.store.values) (le_refl m.store.floor)))
 
-    after : Machine
+    abbrev after : Machine
     after = record m { store = after_sweep bound m.store }
 
     swept_are : PartsAreOf setup fs after (record old { store = swept })

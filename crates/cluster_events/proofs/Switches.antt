@@ -66,6 +66,9 @@ module _ (setup : Setup) (fs : List Function) (m : Machine) (old : Parts) (are :
     end_done e.Idle is = nothing line.Absent is.1 (pends None is.0)
     end_done (e.Unfinished path) is = nothing (line.Unfinished path) is.1 (ends (Some path) is.0)
 
+    pub end_said : (ending : Ending) (line : Line) → IsEnding first engine old.book b ending → line ≡ line_of_ending ending → IsEventDone setup fs (event.EndSwitch engine) m (record old { book = b }) line
+    end_said ending line is line_is = subst (λ (l : Line). IsEventDone setup fs (event.EndSwitch engine) m (record old { book = b }) l) (sym line_is) (end_done ending is)
+
   -- A trim.
   module _ (valid : is_event setup fs (event.Trim engine) ≡ true) (b : BookState) (sound : Sound b) (few : length (ordered old.book) < 2 ^ 64) (low : suc (position old.book engine) < 2 ^ 64) where
     room : NumbersHaveRoom m (event.Trim engine)

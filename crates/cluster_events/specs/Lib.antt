@@ -2,3 +2,4 @@ pub mod Machines
 pub mod Lines
 pub mod Writes
 pub mod Views
+pub mod Restarts

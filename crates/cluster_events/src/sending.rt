@@ -8,7 +8,7 @@ ghost use Rattle.cluster_events.specs.Lines.{line_of_ending};
 ghost use Rattle.cluster_events.specs.Machines.{CanDo, CanDoAny, DoesEvent, DoesEventAny};
 
 use crate::advancing::advance;
-use boki_types::{Body, Ending, Line, Program};
+use boki_types::{Body, Ending, Function, Line, Program};
 use flow_parts::Parts;
 use hm_switch::begin;
 use lb_base::{Cond, List, Memory, Mode, Path, Seqnum, Tag, Value, Words};
@@ -64,9 +64,16 @@ fn name_of(alloc: Global, program: &Program, function: u32) -> Result<Words, Mem
     ensures { IfOk result (λ name. name ≡ function_name function program.now.functions) }
 {
     match program.functions.as_slice().get(function as usize) {
-        Some(function) => Ok(function.name.clone()?),
+        Some(function) => copy_name(function),
         None => Ok(Words::new(alloc)),
     }
+}
+
+// A copy of the name of a function.
+fn copy_name(function: &Function) -> Result<Words, Memory>
+    ensures { IfOk result (λ name. name ≡ function.now.name) }
+{
+    Ok(function.name.clone()?)
 }
 
 /// A switch begins.
@@ -129,7 +136,8 @@ pub fn append(
     requires { CanDoAny (event.Append engine tags.now text.now) parts.old }
     ensures { IfOk result (DoesEventAny (event.Append engine tags.now text.now) parts.old parts.new) }
 {
-    let sent = send_user(alloc, &mut parts.book, engine, None, tags.as_slice(), text.as_bytes())?;
+    let bytes = text.as_bytes();
+    let sent = send_user(alloc, &mut parts.book, engine, None, tags.as_slice(), bytes)?;
     Ok(Line::Sent(sent))
 }
 
@@ -147,7 +155,8 @@ pub fn cond(
 {
     let tag = tags.as_slice()[0];
     let condition = Some(Cond { tag, place });
-    let sent = send_user(alloc, &mut parts.book, engine, condition, tags.as_slice(), text.as_bytes())?;
+    let bytes = text.as_bytes();
+    let sent = send_user(alloc, &mut parts.book, engine, condition, tags.as_slice(), bytes)?;
     Ok(Line::Sent(sent))
 }
 
