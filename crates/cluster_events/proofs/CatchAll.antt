@@ -39,7 +39,9 @@ set_all p (q ∷ ps) = set_first (length ps) p q ps ∙ ap (λ (l : List ℕ). p
 module _ (setup : Setup) (fs : List Function) where
   each_behind : (n : ℕ) (m : Machine) → (apply_events setup fs (catch_each n) m).machine ≡ record m { positions = set_each n (length (log m)) m.positions }
   each_behind zero m = refl
-  each_behind (suc n) m = each_behind n (catch_up (suc n) m)
+  each_behind (suc n) m =
+      let before : suc n - 1 ≡ n = omega arith in
+      each_behind n (catch_up (suc n) m) ∙ ap (λ k. record m { positions = set_each n (length (log m)) (slice_set m.positions k (length (log m))) }) before
 
   -- all of them
   pub caught_by_events : (m : Machine) → (apply_events setup fs (catch_each (length m.positions)) m).machine ≡ catch_up_all m

@@ -1,9 +1,10 @@
 -- A new book, a new store and new caches are those of the initial machine.
-use Rattle.std.proofs.Common.{◌≡◌, ◌∙◌, ℕ, zero, suc, ◌-◌, ◌≤◌, ◌<◌, ◌&&◌, ◌||◌, not, Bool, true, false, cond, List, [], ◌∷◌, length, map, replicate, Option, Some, None, All, refl, sym, ap, ap₂, subst, arith}
+use Rattle.std.proofs.Common.{◌≡◌, ◌∙◌, ℕ, zero, suc, ◌+◌, ◌-◌, ◌≤◌, ◌<◌, ◌&&◌, ◌||◌, ◌++◌, length-append, not, Bool, true, false, cond, List, [], ◌∷◌, length, map, replicate, Option, Some, None, All, refl, sym, ap, ap₂, subst, arith}
 use Rattle.std.specs.Prelude.{slice_index_or, bytes_eq, nat_le}
 use Rattle.std.specs.List.{AllByRecursion, list_all}
 use Rattle.std.specs.Map.{lookup}
 use Rattle.std.proofs.lemmas.Bool.{and_parts}
+use Rattle.std.proofs.lemmas.List.Elements.{All-push}
 use Rattle.lb_base.specs.declared.value.Mode.{Mode}
 use Rattle.lb_base.specs.declared.value.Record.{Record}
 use Rattle.lb_base.specs.declared.value.Value.{Value}
@@ -44,6 +45,10 @@ all_replicated P (suc n) x p = (p, all_replicated P n x p)
 length-replicated : {X : Type 0} (n : ℕ) (x : X) → length (replicate n x) ≡ n
 length-replicated zero x = refl
 length-replicated (suc n) x = ap suc (length-replicated n x)
+
+-- one more at the end
+pub pushed : {X : Type 0} (P : X → Type 0) (xs ys : List X) (x : X) (n : ℕ) → ys ≡ xs ++ x ∷ [] → length xs ≡ n → All P xs → P x → (length ys ≡ n + 1) × All P ys
+pushed P xs ys x n is long all p = (ap length is ∙ length-append xs (x ∷ []) ∙ ap (λ k. k + 1) long, subst (All P) (sym is) (All-push P xs x all p))
 
 no_bodies : (n : ℕ) → replicate n [] ≡ map (map (decoded_record body_of)) (replicate n [])
 no_bodies zero = refl
@@ -95,7 +100,7 @@ module _ (plan : Plan) (ok : is_plan plan ≡ true) where
       (txns : parts.txns.items ≡ replicate plan.setup.engines [])
       (switches : (length parts.switches.items ≡ plan.setup.engines) × All (IsNew plan.setup.mode) parts.switches.items)
       (first : parts.first ≡ plan.setup.mode) (newer : parts.newer ≡ plan.setup.newer) where
-    new : BookState
+    abbrev new : BookState
     new = new_book plan.setup.shards plan.setup.replicas plan.setup.engines
 
     is_new_book : IsBookOf (initial_machine plan.setup plan.objects) new

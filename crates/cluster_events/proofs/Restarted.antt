@@ -33,10 +33,10 @@ all_set P (suc k) y (x ∷ xs) p all = (all.0, all_set P k y xs p all.1)
 module _ (setup : Setup) (fs : List Function) (m : Machine) (old : Parts) (are : PartsAreOf setup fs m old) (engine : ℕ)
     (valid : is_event setup fs (event.Restart engine) ≡ true) (there : engine - 1 < length old.switches.items) (s : SwitchState) (d : SwitchState)
     (new : IsNew (slice_index_or old.switches.items (engine - 1) d).first s) where
-  b : BookState
+  abbrev pub b : BookState
   b = restarted engine old.book
 
-  switches : List SwitchState
+  abbrev pub switches : List SwitchState
   switches = slice_set old.switches.items (engine - 1) s
 
   -- each engine's view is one of the restarted book
@@ -54,10 +54,11 @@ module _ (setup : Setup) (fs : List Function) (m : Machine) (old : Parts) (are :
       at false is =
           let other = eqb-false k (engine - 1) is in
           let was = are.stand.folds.switches k e lt in
+          let before : k ≡ suc k - 1 = omega arith in
           subst (IsSwitchOf setup b (suc k)) (sym (get_or-set_other old.switches.items (engine - 1) k s e other)) (record {
             first = was.first;
             follows = record {
-              within = subst (λ n. (slice_index_or old.switches.items k e).position ≤ n) (sym (seen_other 0 (engine - 1) k old.book.positions (λ same. other (sym same)))) was.follows.within;
+              within = subst (λ n. (slice_index_or old.switches.items k e).position ≤ n) (sym (seen_other 0 (engine - 1) (suc k - 1) old.book.positions (λ same. other (before ∙ sym same)))) was.follows.within;
               fold = was.follows.fold;
             };
           })

@@ -6,5 +6,5 @@ use Rattle.cluster_events.proofs.advancing.advance.Goals as goal
 pub returns : goal.returns
 returns c =
     on_ok_weaker c.advance.result
-    (λ e current. advanced c.args.parts.now c.args.engine c.requires.engine c.requires.parts c.index_mut-view.result.now c.advance.new.self c.index_mut-view.ensures.value c.advance.ensures.first current _ refl refl refl refl refl refl refl)
+    (λ current. advanced c.args.parts.now c.args.engine c.requires.engine c.requires.parts c.index_mut-view.result.now c.advance.new.self c.index_mut-view.ensures.value c.advance.ensures.first current _ refl refl refl refl refl refl refl)
     c.advance.ensures.ok

@@ -7,7 +7,7 @@ use Rattle.cluster_events.proofs.sending.submit.Goals as goal
 pub send_body-sent-requires-clause-range : goal.send_body-sent-requires-clause-range
 send_body-sent-requires-clause-range c =
     let r = c.requires in
-    submit_range r.setup c.args.program.now.functions r.machine c.args.parts.now r.are c.args.engine c.args.request c.args.function c.args.args.now c.unwrap-path.result c.in_ok-body.body r.valid
+    submit_range r.setup c.args.program.now.functions c.args.engine c.args.request c.args.function c.args.args.now r.machine c.args.parts.now r.are c.unwrap-path.result c.in_ok-body.body r.valid
     (path_is r.setup c.args.program.now.functions c.args.engine c.args.request c.args.function c.args.args.now c.request.result c.unwrap-path.result r.valid c.request.ensures c.unwrap-path.ensures) c.in_ok-body.ensures
 
 pub returns : goal.returns
