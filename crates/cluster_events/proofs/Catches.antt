@@ -32,8 +32,6 @@ use Rattle.cluster_events.specs.Machines.{IsBookOf, HasReplicas, PartsAreOf, IsE
 use Rattle.cluster_events.specs.Lines.{line_of_cut}
 use Rattle.cluster_events.proofs.Machines.{machine_of, on_machine, is_book, length_is, records_are, progress_is}
 use Rattle.cluster_events.proofs.Done.{IsBookMoved, positions_within, book_done, not_moved}
-
-
 use Rattle.cluster_events.proofs.Cuts.{log_length, cut_moved}
 
 -- One engine.

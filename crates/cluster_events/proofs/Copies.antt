@@ -39,7 +39,6 @@ replicas_set n k j v [] are = tt
 replicas_set n zero j v (c ∷ cs) are = (length-set c j v ∙ are.0, are.1)
 replicas_set n (suc k) j v (c ∷ cs) are = (are.0, replicas_set n k j v cs are.1)
 
-
 module _ (setup : Setup) (fs : List Function) (m : Machine) (old : Parts) (are : PartsAreOf setup fs m old) where
   -- A copy.
   module _ (shard replica n : ℕ) (valid : is_event setup fs (event.Copy shard replica n) ≡ true) where

@@ -33,7 +33,6 @@ use Rattle.cluster_events.specs.Lines.{line_of_cut}
 use Rattle.cluster_events.proofs.Machines.{machine_of, on_machine, is_book, length_is, records_are, progress_is}
 use Rattle.cluster_events.proofs.Done.{IsBookMoved, positions_within, book_done, not_moved}
 
-
 module _ (setup : Setup) (m : Machine) (b : BookState) (is : IsBookOf m b) (here : IsBookMoved setup m m b b) where
   -- the vectors of the machine and of the book, which are the same
   moved : (t : Bool) (q p : List ℕ) → q ≡ p → IsBookMoved setup m (cond t m (record m { vectors = q ∷ m.vectors })) b (cond t b (record b { vectors = p ∷ b.vectors }))

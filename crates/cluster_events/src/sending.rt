@@ -1,9 +1,9 @@
 //! Events that send a record, but for those of attempts.
-ghost use Rattle.std.specs.Prelude.{◌≡◌, ◌∷◌, [], IfOk};
+ghost use Rattle.std.specs.Prelude.{◌≡◌, IfOk, IsTrue};
 ghost use Rattle.boki_types.specs.declared.body.Body.TheVariants as body;
 ghost use Rattle.boki_types.specs.declared.event.Event.TheVariants as event;
-ghost use Rattle.boki_machine.specs.Machine.{first_tag};
 ghost use Rattle.boki_machine.specs.Step.{function_name};
+ghost use Rattle.script_ranges.specs.Ranged.{are_bytes};
 ghost use Rattle.cluster_events.specs.Lines.{line_of_ending};
 ghost use Rattle.cluster_events.specs.Machines.{CanDo, CanDoAny, DoesEvent, DoesEventAny};
 
@@ -77,12 +77,7 @@ fn copy_name(function: &Function) -> Result<Words, Memory>
 }
 
 /// A switch begins.
-pub fn switch(
-    alloc: Global,
-    parts: &mut Parts,
-    engine: u32,
-    target: Mode,
-) -> Result<Line, Memory>
+pub fn switch(alloc: Global, parts: &mut Parts, engine: u32, target: Mode) -> Result<Line, Memory>
     requires { CanDoAny (event.Switch engine target) parts.old }
     ensures { IfOk result (DoesEventAny (event.Switch engine target) parts.old parts.new) }
 {
@@ -137,6 +132,7 @@ pub fn append(
     ensures { IfOk result (DoesEventAny (event.Append engine tags.now text.now) parts.old parts.new) }
 {
     let bytes = text.as_bytes();
+    note_bytes(bytes);
     let sent = send_user(alloc, &mut parts.book, engine, None, tags.as_slice(), bytes)?;
     Ok(Line::Sent(sent))
 }
@@ -156,8 +152,23 @@ pub fn cond(
     let tag = tags.as_slice()[0];
     let condition = Some(Cond { tag, place });
     let bytes = text.as_bytes();
-    let sent = send_user(alloc, &mut parts.book, engine, condition, tags.as_slice(), bytes)?;
+    note_bytes(bytes);
+    let sent = send_user(
+        alloc,
+        &mut parts.book,
+        engine,
+        condition,
+        tags.as_slice(),
+        bytes,
+    )?;
     Ok(Line::Sent(sent))
+}
+
+// Bytes are bytes: it tells the proofs so, and does nothing.
+fn note_bytes(bytes: &[u8])
+    ensures { IsTrue (are_bytes bytes.now) }
+{
+    let _count = bytes.len();
 }
 
 /// The records of a user tag up to a seqnum are hidden.

@@ -1,5 +1,3 @@
-use Rattle.std.proofs.Common.{arith}
-use Rattle.rec_codec.proofs.Fields.{all_bytes}
 use Rattle.cluster_events.proofs.Sends.{cond_said, first_is}
 use Rattle.cluster_events.proofs.sending.cond.Goals as goal
 
@@ -7,4 +5,4 @@ pub returns : goal.returns
 returns c fs setup m valid are =
     cond_said setup fs m c.args.parts.now are c.send_user.new.book (c.send_user.ensures.sound are.stand.kept.sound) c.args.engine c.in_ok-sent.sent c.args.tags.now c.as_slice-2.result.now c.args.text.now c.as_bytes-bytes.result.now
     c.args.place _ valid (first_is setup fs c.args.engine c.args.place c.args.tags.now c.args.text.now c.as_slice.result.now _ c.as_slice.ensures valid)
-    c.as_slice-2.ensures c.as_bytes-bytes.ensures.value (all_bytes c.as_bytes-bytes.result.now (λ i. omega (arith, c.before.branch-sent.type_inv.bytes i))) c.as_bytes-bytes.ensures.utf8 c.in_ok-sent.ensures.ok
+    c.as_slice-2.ensures c.as_bytes-bytes.ensures.value c.note_bytes.ensures c.as_bytes-bytes.ensures.utf8 c.in_ok-sent.ensures.ok
