@@ -38,3 +38,15 @@ abbrev pub DoesAll :
 DoesAll fs event old new before after line =
     (setup : Setup) (m : Machine) → IsTrue (is_event setup fs event) → AllAreOf setup fs m old before
     → IsAllDone setup fs event m new after line
+
+-- What an event that touches nothing but attempts does to them, for every machine whose they were.
+pub record IsDoneToAttempts
+    (setup : Setup) (fs : List Function) (event : Event) (m : Machine) (attempts : List (ℕ × AttemptState)) (line : Line)
+    : Type 0 where
+  pub line_is : line ≡ (apply_event setup fs m event).line
+  pub stand : AttemptsStandFor fs (reverse (apply_event setup fs m event).machine.attempts) attempts
+
+abbrev pub DoesToAttempts : Event → List (ℕ × AttemptState) → List (ℕ × AttemptState) → Line → Type 0
+DoesToAttempts event before after line =
+    (setup : Setup) (fs : List Function) (m : Machine) → IsTrue (is_event setup fs event)
+    → AttemptsStandFor fs (reverse m.attempts) before → IsDoneToAttempts setup fs event m after line

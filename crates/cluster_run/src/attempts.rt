@@ -1,6 +1,11 @@
 //! Events of attempts.
+ghost use Rattle.std.specs.Prelude.{IfOk};
+ghost use Rattle.boki_types.specs.declared.event.Event.TheVariants as event;
+ghost use Rattle.cluster_run.specs.Attempts.{CanDoAll, DoesAll, DoesToAttempts};
+
 use boki_flow::{Attempt, Life, Parts};
 use boki_types::{Line, Program};
+use cluster_events::restart as restart_parts;
 use indexmap::IndexMap;
 use lb_base::{Memory, Path};
 use std::alloc::Global;
@@ -11,7 +16,9 @@ pub(crate) fn start(
     number: u32,
     path: Path,
     engine: u32,
-) -> Result<Line, Memory> {
+) -> Result<Line, Memory>
+    ensures { IfOk result (DoesToAttempts (event.Start number path engine) attempts.old.entries attempts.new.entries) }
+{
     if attempts.contains_key(&number) {
         return Ok(Line::Ignored);
     }
@@ -26,7 +33,12 @@ pub(crate) fn step_attempt(
     parts: &mut Parts,
     attempts: &mut IndexMap<u32, Attempt>,
     number: u32,
-) -> Result<Line, Memory> {
+) -> Result<Line, Memory>
+    requires { CanDoAll program.now.functions (event.Step number) parts.old attempts.old.entries }
+    ensures { IfOk result (DoesAll program.now.functions (event.Step number) parts.old parts.new attempts.old.entries attempts.new.entries) }
+{
+    // The length has 64 bits.
+    let _length = parts.book.length();
     match attempts.get_mut(&number) {
         Some(attempt) => {
             let line = attempt.step(alloc, parts, program)?;
@@ -43,7 +55,10 @@ pub(crate) fn miss_attempt(
     parts: &mut Parts,
     attempts: &mut IndexMap<u32, Attempt>,
     number: u32,
-) -> Result<Line, Memory> {
+) -> Result<Line, Memory>
+    requires { CanDoAll program.now.functions (event.Miss number) parts.old attempts.old.entries }
+    ensures { IfOk result (DoesAll program.now.functions (event.Miss number) parts.old parts.new attempts.old.entries attempts.new.entries) }
+{
     match attempts.get_mut(&number) {
         Some(attempt) => Ok(Line::Missed(attempt.miss(alloc, parts, program)?)),
         None => Ok(Line::Ignored),
@@ -51,7 +66,9 @@ pub(crate) fn miss_attempt(
 }
 
 /// An attempt is killed.
-pub(crate) fn kill_attempt(attempts: &mut IndexMap<u32, Attempt>, number: u32) -> Line {
+pub(crate) fn kill_attempt(attempts: &mut IndexMap<u32, Attempt>, number: u32) -> Line
+    ensures { DoesToAttempts (event.Kill number) attempts.old.entries attempts.new.entries result }
+{
     match attempts.get_mut(&number) {
         Some(attempt) => {
             if attempt.kill() {
@@ -65,7 +82,9 @@ pub(crate) fn kill_attempt(attempts: &mut IndexMap<u32, Attempt>, number: u32) -
 }
 
 /// An attempt forgets that it waits for a record.
-pub(crate) fn lose_record(attempts: &mut IndexMap<u32, Attempt>, number: u32) -> Line {
+pub(crate) fn lose_record(attempts: &mut IndexMap<u32, Attempt>, number: u32) -> Line
+    ensures { DoesToAttempts (event.Lose number) attempts.old.entries attempts.new.entries result }
+{
     match attempts.get_mut(&number) {
         Some(attempt) => {
             if attempt.lose() {
@@ -80,16 +99,16 @@ pub(crate) fn lose_record(attempts: &mut IndexMap<u32, Attempt>, number: u32) ->
 
 /// An engine loses what it had in memory, and its attempts that run are killed.
 pub(crate) fn restart(
+    program: &Program,
     parts: &mut Parts,
     attempts: &mut IndexMap<u32, Attempt>,
     engine: u32,
-) -> Result<Line, Memory> {
+) -> Result<Line, Memory>
+    requires { CanDoAll program.now.functions (event.Restart engine) parts.old attempts.old.entries }
+    ensures { IfOk result (DoesAll program.now.functions (event.Restart engine) parts.old parts.new attempts.old.entries attempts.new.entries) }
+{
     let killed = running_on(attempts, engine)?;
-    parts.book.restart(engine);
-    let index = (engine - 1) as usize;
-    parts.queues[index].clear();
-    parts.txns[index].clear();
-    parts.switches[index].clear();
+    restart_parts(parts, engine);
     kill_on(attempts, engine);
     Ok(Line::Restarted(killed))
 }

@@ -1,21 +1,16 @@
 ghost use Rattle.std.specs.Prelude.{◌≡◌, IsTrue, IfOk, IsErr};
 ghost use Rattle.boki_model.specs.Plans.{is_event, is_plan};
+ghost use Rattle.cluster_run.specs.Attempts.{CanDoAll, DoesAll};
 ghost use Rattle.cluster_run.specs.Clusters.{IsOfPlan, IsOpened, DoesEvent, CatchesAllUp, MarksOnMemory};
 
 use crate::attempts::{kill_attempt, lose_record, miss_attempt, restart, start, step_attempt};
-use crate::ordering::{catch, copy, cut, sync};
-use crate::reading::{aux, next, prev, set_aux, settled, tail};
-use crate::sending::{append, cond, end_switch, submit, switch, trim, trim_tag};
-use crate::store::sweep;
 use boki_flow::{Attempt, Parts};
-use boki_queue::QueueCache;
-use boki_txn::TxnCache;
 use boki_types::{Event, Line, Plan, Program, Setup};
 use book_api::{Book, Gate};
-use hm_switch::SwitchView;
+use cluster_events::{append, aux, catch, catch_all, cond, copy, cut, end_switch, new_parts, next, prev, set_aux};
+use cluster_events::{settled, submit, sweep, switch, sync, tail, trim, trim_tag};
 use indexmap::IndexMap;
 use lb_base::{List, Memory, Words};
-use obj_store::ObjStore;
 use std::alloc::Global;
 use std::marker::Model;
 use std::thread::Threads;
@@ -101,7 +96,7 @@ impl Cluster {
             return Err(Memory);
         }
         self.marked = true;
-        let length = self.parts.book.catch_all(rt, gate)?;
+        let length = catch_all(rt, &mut self.parts, gate)?;
         self.marked = false;
         Ok(length)
     }
@@ -112,28 +107,6 @@ impl Cluster {
     {
         &self.parts.book
     }
-}
-
-/// What attempts run on, when nothing has happened.
-fn new_parts(alloc: Global, plan: &Plan) -> Result<Parts, Memory> {
-    let setup = plan.setup;
-    let mut queues = Vec::new(alloc);
-    let mut txns = Vec::new(alloc);
-    let mut switches = Vec::new(alloc);
-    for _ in 0..setup.engines {
-        queues.push(QueueCache::new(alloc)?)?;
-        txns.push(TxnCache::new(alloc)?)?;
-        switches.push(SwitchView::new(alloc, setup.mode))?;
-    }
-    Ok(Parts {
-        book: Book::new(alloc, setup.shards, setup.replicas, setup.engines)?,
-        store: ObjStore::new(alloc, plan.objects.as_slice())?,
-        queues,
-        txns,
-        switches,
-        first: setup.mode,
-        newer: setup.newer,
-    })
 }
 
 /// The names of a program's functions.
@@ -154,19 +127,22 @@ fn apply<R: Threads + Sync, G: Gate + Sync>(
     attempts: &mut IndexMap<u32, Attempt>,
     event: &Event,
     gate: &G,
-) -> Result<Line, Memory> {
+) -> Result<Line, Memory>
+    requires { CanDoAll program.now.functions event.now parts.old attempts.old.entries }
+    ensures { IfOk result (DoesAll program.now.functions event.now parts.old parts.new attempts.old.entries attempts.new.entries) }
+{
     match event {
         Event::Submit {
             engine,
             request,
             function,
             args,
-        } => submit(alloc, program, &mut parts.book, *engine, *request, *function, args),
-        Event::Copy { shard, replica, n } => Ok(copy(&mut parts.book, *shard, *replica, *n)),
-        Event::Cut => cut(&mut parts.book),
-        Event::Catch { engine } => catch(&mut parts.book, *engine),
-        Event::Sync => sync(rt, &mut parts.book, gate),
-        Event::Restart { engine } => restart(parts, attempts, *engine),
+        } => submit(alloc, program, parts, *engine, *request, *function, args),
+        Event::Copy { shard, replica, n } => Ok(copy(parts, *shard, *replica, *n)),
+        Event::Cut => cut(parts),
+        Event::Catch { engine } => catch(parts, *engine),
+        Event::Sync => sync(rt, parts, gate),
+        Event::Restart { engine } => restart(program, parts, attempts, *engine),
         Event::Start {
             attempt,
             path,
@@ -176,30 +152,30 @@ fn apply<R: Threads + Sync, G: Gate + Sync>(
         Event::Kill { attempt } => Ok(kill_attempt(attempts, *attempt)),
         Event::Lose { attempt } => Ok(lose_record(attempts, *attempt)),
         Event::Miss { attempt } => miss_attempt(alloc, program, parts, attempts, *attempt),
-        Event::Switch { engine, target } => switch(alloc, &mut parts.book, *engine, *target),
+        Event::Switch { engine, target } => switch(alloc, parts, *engine, *target),
         Event::EndSwitch { engine } => end_switch(parts, *engine),
         Event::Trim { engine } => trim(parts, *engine),
         Event::Sweep { engine } => sweep(alloc, parts, *engine),
         Event::Append { engine, tags, text } => {
-            append(alloc, &mut parts.book, *engine, tags, text)
+            append(alloc, parts, *engine, tags, text)
         }
         Event::Cond {
             engine,
             place,
             tags,
             text,
-        } => cond(alloc, &mut parts.book, *engine, *place, tags, text),
-        Event::Next { engine, tag, from } => next(alloc, &parts.book, *engine, *tag, *from),
-        Event::Prev { engine, tag, upto } => prev(alloc, &parts.book, *engine, *tag, *upto),
-        Event::Tail { engine, tag } => tail(alloc, &parts.book, *engine, *tag),
-        Event::TrimTag { engine, tag, upto } => trim_tag(&mut parts.book, *engine, *tag, *upto),
+        } => cond(alloc, parts, *engine, *place, tags, text),
+        Event::Next { engine, tag, from } => next(alloc, parts, *engine, *tag, *from),
+        Event::Prev { engine, tag, upto } => prev(alloc, parts, *engine, *tag, *upto),
+        Event::Tail { engine, tag } => tail(alloc, parts, *engine, *tag),
+        Event::TrimTag { engine, tag, upto } => trim_tag(alloc, parts, *engine, *tag, *upto),
         Event::Settled {
             engine,
             shard,
             local,
-        } => Ok(settled(&parts.book, *engine, *shard, *local)),
-        Event::SetAux { engine, seq, text } => set_aux(&mut parts.book, *engine, *seq, text),
-        Event::GetAux { engine, seq } => aux(alloc, &mut parts.book, *engine, *seq),
+        } => Ok(settled(parts, *engine, *shard, *local)),
+        Event::SetAux { engine, seq, text } => set_aux(parts, *engine, *seq, text),
+        Event::GetAux { engine, seq } => aux(alloc, parts, *engine, *seq),
         Event::Seed { .. } => Ok(Line::Seeded),
     }
 }

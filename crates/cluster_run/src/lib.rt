@@ -4,11 +4,7 @@
 mod attempts;
 mod cluster;
 mod folds;
-mod ordering;
-mod reading;
 mod report;
-mod sending;
-mod store;
 mod turns;
 
 pub use cluster::Cluster;
