@@ -1,6 +1,6 @@
 -- How the arms of a step are said: each makes the move of its own definition, for every store and attempt that the parts and what is
 -- kept stand for, and of which a premise of its own holds.
-use Rattle.std.specs.Prelude.{◌≡◌, ℕ, zero, Bool, true, List, Option, Some, None, is_some, unwrap_or, zip}
+use Rattle.std.specs.Prelude.{◌≡◌, ℕ, zero, ◌≤◌, Bool, true, List, Option, Some, None, is_some, unwrap_or, zip}
 use Rattle.boki_types.specs.declared.line.StepLine.{StepLine}
 use Rattle.boki_types.specs.declared.line.StepLine.TheVariants as line
 use Rattle.boki_types.specs.declared.operation.Answer.TheVariants as ans
@@ -9,7 +9,12 @@ use Rattle.boki_types.specs.declared.line.Life.TheVariants.{Running}
 use Rattle.boki_types.specs.declared.log.Call.{Call}
 use Rattle.boki_types.specs.declared.operation.Op.{Op}
 use Rattle.boki_model.specs.Reads.{nth}
-use Rattle.boki_model.specs.Bodies.{step_tag}
+use Rattle.boki_model.specs.Bodies.{step_tag, child}
+use Rattle.boki_model.specs.Folds.{queues, front, commits, store_values, values_of_names}
+use Rattle.boki_model.specs.Modes.{result_of}
+use Rattle.boki_queue.specs.QueueStates.{popped_at}
+use Rattle.boki_txn.specs.TxnStates.{commits_at}
+use Rattle.book_api.specs.Books.{position, next_sent}
 use Rattle.step_log.specs.Sound.{view}
 use Rattle.machine_laws.specs.Adopts.{AdoptsAsked}
 use Rattle.boki_types.specs.declared.operation.Ask.{Ask}
@@ -27,14 +32,14 @@ use Rattle.boki_types.specs.declared.plan.Setup.{Setup}
 use Rattle.boki_types.specs.declared.program.Function.{Function}
 use Rattle.boki_model.specs.Writes.{Store}
 use Rattle.boki_machine.specs.Attempt.{Attempt, Move, moves, adopts, call_of}
-use Rattle.boki_machine.specs.Step.{Missed, seqnum, attempt_ask, answers_to, adopts_answer}
+use Rattle.boki_machine.specs.Step.{Missed, seqnum, attempt_ask, answers_to, adopts_answer, adopts_join, adopts_operation, records_below, is_committed, step_if_running, step_when_called, continue_step, misses_at, misses_asked}
 use Rattle.boki_model.specs.Live.{Live}
 use Rattle.boki_types.specs.declared.body.Body.{Body}
 use Rattle.attempt_state.specs.declared.state.AttemptState.{AttemptState}
 use Rattle.attempt_state.specs.Attempts.{HasScript}
 use Rattle.boki_flow.specs.declared.parts.Parts.{Parts}
 use Rattle.boki_flow.specs.Parts.{IsCutShort}
-use Rattle.boki_flow.specs.Flow.{FlowStandsFor, IsMoved, IsMissed}
+use Rattle.boki_flow.specs.Flow.{FlowStandsFor, IsMoved, IsMissed, move_of, missed_of}
 
 -- there is a store and an attempt for which they stand and of which this holds
 pub record CanFlowIf (P : Setup → Store → Attempt → Type 0) (fs : List Function) (parts : Parts) (kept : AttemptState) : Type 0 where
@@ -64,20 +69,23 @@ CutShortBy P move fs old new before =
 abbrev pub Always : Setup → Store → Attempt → Type 0
 Always setup store a = Unit {0}
 
--- a lost store call did what this definition says, or was cut short
+-- Of lost store calls, for any functions: there are some; the call did what this definition says; or it was cut short.
+abbrev pub CanMissIf : (P : List Function → Setup → Store → Attempt → Type 0) (parts : Parts) (kept : AttemptState) → Type 0
+CanMissIf P parts kept = (fs : List Function) × CanFlowIf (P fs) fs parts kept
+
 abbrev pub MissesBy :
-    (P : Setup → Store → Attempt → Type 0) (missed : Setup → Store → Attempt → Missed) (fs : List Function)
+    (P : List Function → Setup → Store → Attempt → Type 0) (missed : List Function → Setup → Store → Attempt → Missed)
     (old new : Parts) (kept : AttemptState) (what : Miss) → Type 0
-MissesBy P missed fs old new kept what =
-    (setup : Setup) (store : Store) (a : Attempt) → FlowStandsFor setup fs store a old kept → P setup store a
-    → IsMissed setup (missed setup store a) old new what
+MissesBy P missed old new kept what =
+    (fs : List Function) (setup : Setup) (store : Store) (a : Attempt) → FlowStandsFor setup fs store a old kept
+    → P fs setup store a → IsMissed setup (missed fs setup store a) old new what
 
 abbrev pub MissCutShortBy :
-    (P : Setup → Store → Attempt → Type 0) (missed : Setup → Store → Attempt → Missed) (fs : List Function)
+    (P : List Function → Setup → Store → Attempt → Type 0) (missed : List Function → Setup → Store → Attempt → Missed)
     (old new : Parts) (kept : AttemptState) → Type 0
-MissCutShortBy P missed fs old new kept =
-    (setup : Setup) (store : Store) (a : Attempt) → FlowStandsFor setup fs store a old kept → P setup store a
-    → IsCutShort setup store (missed setup store a).store old new
+MissCutShortBy P missed old new kept =
+    (fs : List Function) (setup : Setup) (store : Store) (a : Attempt) → FlowStandsFor setup fs store a old kept
+    → P fs setup store a → IsCutShort setup store (missed fs setup store a).store old new
 
 -- It runs, has adopted nothing yet, and its engine sees its call.
 pub record IsCalled (parts : Parts) (call : Call) (a : Attempt) : Type 0 where
@@ -93,6 +101,7 @@ pub record IsAdopting (fs : List Function) (store : Store) (parts : Parts) (seq 
   pub seq_is : x.seq ≡ seq
   pub says : x.holds ≡ body
   pub op : Op
+  pub asks : attempt_ask fs a ≡ Some (ask.Op op)
   pub adopts : AdoptsAsked fs store (view parts.book a.engine) a x op
 
 -- it runs, has adopted its Init, and its script asks this
@@ -115,26 +124,110 @@ abbrev pub IsAnswered : List Function → Parts → Attempt → Type 0
 IsAnswered fs parts a =
     is_some (answers_to a (attempt_ask fs a) (nth (step_tag a.path) a.place (view parts.book a.engine))) ≡ true
 
+-- Premises of arms: it runs; it has adopted its Init besides; and the record at its place is of its next operation.
+abbrev pub Runs : Setup → Store → Attempt → Type 0
+Runs setup store a = a.life ≡ Running
+
+abbrev pub HasBegun : Setup → Store → Attempt → Type 0
+HasBegun setup store a = HasScript a
+
+abbrev pub FindsAnswer : List Function → Parts → Setup → Store → Attempt → Type 0
+FindsAnswer fs parts setup store a = HasScript a × IsAnswered fs parts a
+
+-- its script asks this; and its engine sees a seqnum
+abbrev pub ScriptAsks : List Function → Ask → Setup → Store → Attempt → Type 0
+ScriptAsks fs ask setup store a = IsAsking fs ask a
+
+abbrev pub SeesSeqnum : Parts → ℕ → Setup → Store → Attempt → Type 0
+SeesSeqnum parts seq setup store a = seq ≤ position parts.book a.engine
+
+-- The moves of a step in the order of its cases, by what the attempt's engine sees: of any step; where the attempt runs; where its
+-- engine sees no end of its invocation; and where it has adopted its Init.
+abbrev pub step_move : List Function → Parts → Setup → Store → Attempt → Move
+step_move fs parts setup store a = move_of setup fs store a parts
+
+abbrev pub running_move : List Function → Parts → Setup → Store → Attempt → Move
+running_move fs parts setup store a =
+    step_if_running setup fs a store (view parts.book a.engine) (next_sent parts.book a.engine) Running
+
+abbrev pub unended_move : List Function → Parts → Setup → Store → Attempt → Move
+unended_move fs parts setup store a =
+    step_when_called setup fs a store (view parts.book a.engine) (next_sent parts.book a.engine) None
+    (call_of a.path (view parts.book a.engine))
+
+abbrev pub next_move : List Function → Parts → Setup → Store → Attempt → Move
+next_move fs parts setup store a =
+    continue_step setup fs a store (view parts.book a.engine) (next_sent parts.book a.engine) (attempt_ask fs a)
+
+-- the record at its place, which says this at a seqnum, is of the operation that its script asks
+abbrev pub AdoptsBody : List Function → Parts → ℕ → Body → Setup → Store → Attempt → Type 0
+AdoptsBody fs parts seq body setup store a = IsAdopting fs store parts seq body a
+
+abbrev pub adopting_move : Parts → ℕ → Body → Setup → Store → Attempt → Move
+adopting_move parts seq body setup store a =
+    adopts_operation a store (view parts.book a.engine) seq body (moves a store line.WaitsRecord)
+
+-- What a lost store call does: of any step; where the attempt has adopted its Init and its engine sees no end of its invocation; and
+-- where besides it neither adopts nor waits.
+abbrev pub step_missed : List Function → Parts → Setup → Store → Attempt → Missed
+step_missed fs parts setup store a = missed_of setup fs store a parts
+
+abbrev pub next_missed : List Function → Parts → Setup → Store → Attempt → Missed
+next_missed fs parts setup store a =
+    misses_at setup a store (attempt_ask fs a)
+    (answers_to a (attempt_ask fs a) (nth (step_tag a.path) a.place (view parts.book a.engine)))
+
+abbrev pub asked_missed : List Function → Setup → Store → Attempt → Missed
+asked_missed fs setup store a = misses_asked setup a store (attempt_ask fs a)
+
 -- It runs, and its script asks what is adopted at this seqnum.
 pub record IsTaking (fs : List Function) (asks : Ask) (seq : ℕ) (changed : Progress) (a : Attempt) : Type 0 where
   pub script : HasScript a
   pub asked : attempt_ask fs a ≡ Some asks
   pub changed_is : changed ≡ progress_of (adopts a seq)
 
--- the same of a commit, whatever it writes
+-- what it asks is adopted at the cursor of its changed state; so is a pop of this queue, and a commit, whatever it writes
+abbrev pub TakesAnswer : List Function → Ask → Progress → Setup → Store → Attempt → Type 0
+TakesAnswer fs asks changed setup store a = IsTaking fs asks changed.cursor.0 changed a
+
+abbrev pub TakesPop : List Function → Parts → List ℕ → Progress → Setup → Store → Attempt → Type 0
+TakesPop fs parts queue changed setup store a =
+    (popped_at changed.cursor.0 (view parts.book a.engine) ≡ Some queue)
+    × IsTaking fs (ask.Op (op.Pop queue)) changed.cursor.0 changed a
+
 pub record IsTakingCommit (fs : List Function) (changed : Progress) (a : Attempt) : Type 0 where
   pub names : List (List ℕ)
   pub writes : List (List ℕ × Value)
   pub takes : IsTaking fs (ask.Op (op.Commit names writes)) changed.cursor.0 changed a
 
--- the moves that adopt a begin and a commit
-abbrev pub begun_move : Attempt → Store → ℕ → List (List ℕ) → List Value → Move
-begun_move a store seq names vs =
-    adopts_answer (record a { transaction = Some seq }) store seq (ans.Values vs) (line.AdoptBegin (seqnum seq) (zip names vs))
+abbrev pub TakesCommit : List Function → Parts → Progress → Setup → Store → Attempt → Type 0
+TakesCommit fs parts changed setup store a =
+    (commits_at changed.cursor.0 (view parts.book a.engine) ≡ true) × IsTakingCommit fs changed a
 
-abbrev pub committed_move : Attempt → Store → ℕ → Bool → Move
-committed_move a store seq good =
-    adopts_answer (record a { transaction = None }) store seq (ans.Committed good) (line.AdoptCommit (seqnum seq) good)
+-- the moves that adopt a join and a pop
+abbrev pub joined_move : Parts → Progress → ℕ → Setup → Store → Attempt → Move
+joined_move parts changed ordinal setup store a =
+    adopts_join a store changed.cursor.0 (child a.path ordinal)
+    (result_of (child a.path ordinal) (view parts.book a.engine))
+
+abbrev pub popped_move : Parts → Progress → List ℕ → Setup → Store → Attempt → Move
+popped_move parts changed queue setup store a =
+    let v = front queue (queues (records_below changed.cursor.0 (view parts.book a.engine))) in
+    adopts_answer a store changed.cursor.0 (ans.Value v) (line.AdoptPop changed.cursor queue v)
+
+-- and those that adopt a begin and a commit
+abbrev pub begun_move : Parts → Progress → List (List ℕ) → Setup → Store → Attempt → Move
+begun_move parts changed names setup store a =
+    let records = records_below changed.cursor.0 (view parts.book a.engine) in
+    let vs = values_of_names names (store_values (commits records)) in
+    adopts_answer (record a { transaction = Some changed.cursor.0 }) store changed.cursor.0 (ans.Values vs)
+    (line.AdoptBegin changed.cursor (zip names vs))
+
+abbrev pub committed_move : Parts → Progress → Setup → Store → Attempt → Move
+committed_move parts changed setup store a =
+    let good = is_committed changed.cursor.0 (view parts.book a.engine) in
+    adopts_answer (record a { transaction = None }) store changed.cursor.0 (ans.Committed good)
+    (line.AdoptCommit changed.cursor good)
 
 -- the move that adopts an Init, with the mode that it fixes
 abbrev pub adopted_init : List Function → Attempt → Store → ℕ → Call → Mode → Move

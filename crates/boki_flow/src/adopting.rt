@@ -1,20 +1,9 @@
 //! An attempt adopts the record at its place.
-ghost use Rattle.std.specs.Prelude.{◌≡◌, true, Some, OnErr, IfOk};
-ghost use Rattle.boki_types.specs.declared.operation.Answer.TheVariants as ans;
+ghost use Rattle.std.specs.Prelude.{◌≡◌, OnErr, IfOk};
 ghost use Rattle.boki_types.specs.declared.operation.Ask.TheVariants as k;
 ghost use Rattle.boki_types.specs.declared.operation.Op.TheVariants as o;
-ghost use Rattle.boki_model.specs.Bodies.{child as model_child};
-ghost use Rattle.boki_model.specs.Folds.{queues, front, commits, store_values, values_of_names};
-ghost use Rattle.boki_model.specs.Modes.{result_of};
-ghost use Rattle.book_api.specs.Books.{next_sent};
-ghost use Rattle.boki_queue.specs.QueueStates.{popped_at};
-ghost use Rattle.boki_txn.specs.TxnStates.{commits_at};
-ghost use Rattle.attempt_state.specs.Attempts.{HasScript};
-ghost use Rattle.boki_types.specs.declared.line.StepLine.TheVariants as lines;
-ghost use Rattle.boki_machine.specs.Step.{records_below, is_committed as committed_at, adopts_answer, adopts_join, adopts_operation, attempt_ask, continue_step};
-ghost use Rattle.boki_machine.specs.Attempt.{moves};
-ghost use Rattle.step_log.specs.Sound.{view};
-ghost use Rattle.boki_flow.specs.Arms.{IsAdopting, IsAnswered, IsTaking, IsTakingCommit, CanFlowIf, MovesBy, CutShortBy, begun_move, committed_move};
+ghost use Rattle.boki_flow.specs.Arms.{FindsAnswer, AdoptsBody, TakesAnswer, TakesPop, TakesCommit, CanFlowIf, MovesBy, CutShortBy};
+ghost use Rattle.boki_flow.specs.Arms.{next_move, adopting_move, joined_move, popped_move, begun_move, committed_move};
 
 use crate::caches::{begun_values, is_committed, pop_value};
 use crate::parts::Parts;
@@ -32,14 +21,12 @@ pub(crate) fn adopt(
     parts: &mut Parts,
     state: &mut AttemptState,
 ) -> Result<StepLine, Memory>
-    requires { CanFlowIf (λ setup store a. HasScript a × IsAnswered program.now.functions parts.old a) program.now.functions parts.old state.old }
-    ensures ok { IfOk result (MovesBy (λ setup store a. HasScript a × IsAnswered program.now.functions parts.old a)
-        (λ setup store a. continue_step setup program.now.functions a store (view parts.old.book a.engine) (next_sent parts.old.book a.engine) (attempt_ask program.now.functions a))
-        program.now.functions parts.old parts.new state.old state.new) }
+    requires { CanFlowIf (FindsAnswer program.now.functions parts.old) program.now.functions parts.old state.old }
+    ensures ok { IfOk result (MovesBy (FindsAnswer program.now.functions parts.old)
+        (next_move program.now.functions parts.old) program.now.functions parts.old parts.new state.old state.new) }
     ensures err { OnErr result (state.new ≡ state.old) }
-    ensures cut { OnErr result (CutShortBy (λ setup store a. HasScript a × IsAnswered program.now.functions parts.old a)
-        (λ setup store a. continue_step setup program.now.functions a store (view parts.old.book a.engine) (next_sent parts.old.book a.engine) (attempt_ask program.now.functions a))
-        program.now.functions parts.old parts.new state.old) }
+    ensures cut { OnErr result (CutShortBy (FindsAnswer program.now.functions parts.old)
+        (next_move program.now.functions parts.old) program.now.functions parts.old parts.new state.old) }
 {
     let at = state.progress;
     match record_at(alloc, &parts.book, at.engine, at.path, at.place)? {
@@ -61,14 +48,12 @@ fn adopt_body(
     seq: Seqnum,
     body: &Body,
 ) -> Result<StepLine, Memory>
-    requires { CanFlowIf (λ setup store a. IsAdopting program.now.functions store parts.old seq.0 body.now a) program.now.functions parts.old state.old }
-    ensures ok { IfOk result (MovesBy (λ setup store a. IsAdopting program.now.functions store parts.old seq.0 body.now a)
-        (λ setup store a. adopts_operation a store (view parts.old.book a.engine) seq.0 body.now (moves a store lines.WaitsRecord))
-        program.now.functions parts.old parts.new state.old state.new) }
+    requires { CanFlowIf (AdoptsBody program.now.functions parts.old seq.0 body.now) program.now.functions parts.old state.old }
+    ensures ok { IfOk result (MovesBy (AdoptsBody program.now.functions parts.old seq.0 body.now)
+        (adopting_move parts.old seq.0 body.now) program.now.functions parts.old parts.new state.old state.new) }
     ensures err { OnErr result (state.new ≡ state.old) }
-    ensures cut { OnErr result (CutShortBy (λ setup store a. IsAdopting program.now.functions store parts.old seq.0 body.now a)
-        (λ setup store a. adopts_operation a store (view parts.old.book a.engine) seq.0 body.now (moves a store lines.WaitsRecord))
-        program.now.functions parts.old parts.new state.old) }
+    ensures cut { OnErr result (CutShortBy (AdoptsBody program.now.functions parts.old seq.0 body.now)
+        (adopting_move parts.old seq.0 body.now) program.now.functions parts.old parts.new state.old) }
 {
     let changed = state.progress.adopted(seq)?;
     match body {
@@ -110,14 +95,12 @@ fn adopt_join(
     changed: Progress,
     ordinal: u32,
 ) -> Result<StepLine, Memory>
-    requires { CanFlowIf (λ setup store a. IsTaking program.now.functions (k.Op (o.Join ordinal)) changed.cursor.0 changed a) program.now.functions parts.old state.old }
-    ensures ok { IfOk result (MovesBy (λ setup store a. IsTaking program.now.functions (k.Op (o.Join ordinal)) changed.cursor.0 changed a)
-        (λ setup store a. adopts_join a store changed.cursor.0 (model_child a.path ordinal) (result_of (model_child a.path ordinal) (view parts.old.book a.engine)))
-        program.now.functions parts.old parts.new state.old state.new) }
+    requires { CanFlowIf (TakesAnswer program.now.functions (k.Op (o.Join ordinal)) changed) program.now.functions parts.old state.old }
+    ensures ok { IfOk result (MovesBy (TakesAnswer program.now.functions (k.Op (o.Join ordinal)) changed)
+        (joined_move parts.old changed ordinal) program.now.functions parts.old parts.new state.old state.new) }
     ensures err { OnErr result (state.new ≡ state.old) }
-    ensures cut { OnErr result (CutShortBy (λ setup store a. IsTaking program.now.functions (k.Op (o.Join ordinal)) changed.cursor.0 changed a)
-        (λ setup store a. adopts_join a store changed.cursor.0 (model_child a.path ordinal) (result_of (model_child a.path ordinal) (view parts.old.book a.engine)))
-        program.now.functions parts.old parts.new state.old) }
+    ensures cut { OnErr result (CutShortBy (TakesAnswer program.now.functions (k.Op (o.Join ordinal)) changed)
+        (joined_move parts.old changed ordinal) program.now.functions parts.old parts.new state.old) }
 {
     let path = child(changed.path, ordinal);
     match last_finish(alloc, &parts.book, changed.engine, path)? {
@@ -139,14 +122,12 @@ fn adopt_pop(
     changed: Progress,
     queue: &Words,
 ) -> Result<StepLine, Memory>
-    requires { CanFlowIf (λ setup store a. (popped_at changed.cursor.0 (view parts.old.book a.engine) ≡ Some queue.now) × IsTaking program.now.functions (k.Op (o.Pop queue.now)) changed.cursor.0 changed a) program.now.functions parts.old state.old }
-    ensures ok { IfOk result (MovesBy (λ setup store a. (popped_at changed.cursor.0 (view parts.old.book a.engine) ≡ Some queue.now) × IsTaking program.now.functions (k.Op (o.Pop queue.now)) changed.cursor.0 changed a)
-        (λ setup store a. adopts_answer a store changed.cursor.0 (ans.Value (front queue.now (queues (records_below changed.cursor.0 (view parts.old.book a.engine))))) (lines.AdoptPop changed.cursor queue.now (front queue.now (queues (records_below changed.cursor.0 (view parts.old.book a.engine))))))
-        program.now.functions parts.old parts.new state.old state.new) }
+    requires { CanFlowIf (TakesPop program.now.functions parts.old queue.now changed) program.now.functions parts.old state.old }
+    ensures ok { IfOk result (MovesBy (TakesPop program.now.functions parts.old queue.now changed)
+        (popped_move parts.old changed queue.now) program.now.functions parts.old parts.new state.old state.new) }
     ensures err { OnErr result (state.new ≡ state.old) }
-    ensures cut { OnErr result (CutShortBy (λ setup store a. (popped_at changed.cursor.0 (view parts.old.book a.engine) ≡ Some queue.now) × IsTaking program.now.functions (k.Op (o.Pop queue.now)) changed.cursor.0 changed a)
-        (λ setup store a. adopts_answer a store changed.cursor.0 (ans.Value (front queue.now (queues (records_below changed.cursor.0 (view parts.old.book a.engine))))) (lines.AdoptPop changed.cursor queue.now (front queue.now (queues (records_below changed.cursor.0 (view parts.old.book a.engine))))))
-        program.now.functions parts.old parts.new state.old) }
+    ensures cut { OnErr result (CutShortBy (TakesPop program.now.functions parts.old queue.now changed)
+        (popped_move parts.old changed queue.now) program.now.functions parts.old parts.new state.old) }
 {
     let seq = changed.cursor;
     let name = queue.clone()?;
@@ -165,14 +146,12 @@ fn adopt_begin(
     changed: Progress,
     names: &List<Words>,
 ) -> Result<StepLine, Memory>
-    requires { CanFlowIf (λ setup store a. IsTaking program.now.functions (k.Op (o.Begin names.now)) changed.cursor.0 changed a) program.now.functions parts.old state.old }
-    ensures ok { IfOk result (MovesBy (λ setup store a. IsTaking program.now.functions (k.Op (o.Begin names.now)) changed.cursor.0 changed a)
-        (λ setup store a. begun_move a store changed.cursor.0 names.now (values_of_names names.now (store_values (commits (records_below changed.cursor.0 (view parts.old.book a.engine))))))
-        program.now.functions parts.old parts.new state.old state.new) }
+    requires { CanFlowIf (TakesAnswer program.now.functions (k.Op (o.Begin names.now)) changed) program.now.functions parts.old state.old }
+    ensures ok { IfOk result (MovesBy (TakesAnswer program.now.functions (k.Op (o.Begin names.now)) changed)
+        (begun_move parts.old changed names.now) program.now.functions parts.old parts.new state.old state.new) }
     ensures err { OnErr result (state.new ≡ state.old) }
-    ensures cut { OnErr result (CutShortBy (λ setup store a. IsTaking program.now.functions (k.Op (o.Begin names.now)) changed.cursor.0 changed a)
-        (λ setup store a. begun_move a store changed.cursor.0 names.now (values_of_names names.now (store_values (commits (records_below changed.cursor.0 (view parts.old.book a.engine))))))
-        program.now.functions parts.old parts.new state.old) }
+    ensures cut { OnErr result (CutShortBy (TakesAnswer program.now.functions (k.Op (o.Begin names.now)) changed)
+        (begun_move parts.old changed names.now) program.now.functions parts.old parts.new state.old) }
 {
     let seq = changed.cursor;
     let values = begun_values(parts, changed.engine, seq, names.as_slice())?;
@@ -193,14 +172,12 @@ fn adopt_commit(
     state: &mut AttemptState,
     changed: Progress,
 ) -> Result<StepLine, Memory>
-    requires { CanFlowIf (λ setup store a. (commits_at changed.cursor.0 (view parts.old.book a.engine) ≡ true) × IsTakingCommit program.now.functions changed a) program.now.functions parts.old state.old }
-    ensures ok { IfOk result (MovesBy (λ setup store a. (commits_at changed.cursor.0 (view parts.old.book a.engine) ≡ true) × IsTakingCommit program.now.functions changed a)
-        (λ setup store a. committed_move a store changed.cursor.0 (committed_at changed.cursor.0 (view parts.old.book a.engine)))
-        program.now.functions parts.old parts.new state.old state.new) }
+    requires { CanFlowIf (TakesCommit program.now.functions parts.old changed) program.now.functions parts.old state.old }
+    ensures ok { IfOk result (MovesBy (TakesCommit program.now.functions parts.old changed)
+        (committed_move parts.old changed) program.now.functions parts.old parts.new state.old state.new) }
     ensures err { OnErr result (state.new ≡ state.old) }
-    ensures cut { OnErr result (CutShortBy (λ setup store a. (commits_at changed.cursor.0 (view parts.old.book a.engine) ≡ true) × IsTakingCommit program.now.functions changed a)
-        (λ setup store a. committed_move a store changed.cursor.0 (committed_at changed.cursor.0 (view parts.old.book a.engine)))
-        program.now.functions parts.old parts.new state.old) }
+    ensures cut { OnErr result (CutShortBy (TakesCommit program.now.functions parts.old changed)
+        (committed_move parts.old changed) program.now.functions parts.old parts.new state.old) }
 {
     let seq = changed.cursor;
     let good = is_committed(parts, changed.engine, seq)?;

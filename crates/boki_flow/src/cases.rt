@@ -1,18 +1,17 @@
 //! The cases of a step, in the order of the step table.
-ghost use Rattle.std.specs.Prelude.{◌≡◌, ◌+◌, ◌<◌, ◌^◌, None, List, is_some, OnErr, IfOk};
-ghost use Rattle.boki_types.specs.declared.line.Life.TheVariants.{Running};
+ghost use Rattle.std.specs.Prelude.{◌≡◌, ◌+◌, ◌<◌, ◌^◌, List, is_some, OnErr, IfOk};
 ghost use Rattle.boki_types.specs.declared.plan.Setup.{Setup};
 ghost use Rattle.boki_types.specs.declared.program.Function.{Function};
 ghost use Rattle.boki_model.specs.Writes.{Store};
 ghost use Rattle.boki_model.specs.Reads.{nth};
 ghost use Rattle.boki_model.specs.Bodies.{step_tag};
-ghost use Rattle.boki_machine.specs.Attempt.{Attempt, call_of};
-ghost use Rattle.boki_machine.specs.Step.{step_if_running, step_when_called, continue_step, attempt_ask, answers_to};
-ghost use Rattle.book_api.specs.Books.{HasEngine, next_sent};
+ghost use Rattle.boki_machine.specs.Attempt.{Attempt};
+ghost use Rattle.boki_machine.specs.Step.{attempt_ask, answers_to};
+ghost use Rattle.book_api.specs.Books.{HasEngine};
 ghost use Rattle.step_log.specs.Sound.{Sound, view};
 ghost use Rattle.attempt_state.specs.Attempts.{HasScript};
-ghost use Rattle.boki_flow.specs.Arms.{Always, CanFlowIf, MovesBy, CutShortBy};
-ghost use Rattle.boki_flow.specs.Flow.{FlowStandsFor, move_of};
+ghost use Rattle.boki_flow.specs.Arms.{Always, Runs, HasBegun, CanFlowIf, MovesBy, CutShortBy, step_move, running_move, unended_move, next_move};
+ghost use Rattle.boki_flow.specs.Flow.{FlowStandsFor};
 
 use crate::adopting::adopt;
 use crate::asking::step_script;
@@ -32,9 +31,11 @@ pub(crate) fn step_attempt(
     state: &mut AttemptState,
 ) -> Result<StepLine, Memory>
     requires { CanFlowIf Always program.now.functions parts.old state.old }
-    ensures ok { IfOk result (MovesBy Always (λ setup store a. move_of setup program.now.functions store a parts.old) program.now.functions parts.old parts.new state.old state.new) }
+    ensures ok { IfOk result (MovesBy Always (step_move program.now.functions parts.old)
+        program.now.functions parts.old parts.new state.old state.new) }
     ensures err { OnErr result (state.new ≡ state.old) }
-    ensures cut { OnErr result (CutShortBy Always (λ setup store a. move_of setup program.now.functions store a parts.old) program.now.functions parts.old parts.new state.old) }
+    ensures cut { OnErr result (CutShortBy Always (step_move program.now.functions parts.old)
+        program.now.functions parts.old parts.new state.old) }
 {
     if state.progress.is_running() {
         step_running(alloc, program, parts, state)
@@ -50,13 +51,11 @@ fn step_running(
     parts: &mut Parts,
     state: &mut AttemptState,
 ) -> Result<StepLine, Memory>
-    requires { CanFlowIf (λ setup store a. a.life ≡ Running) program.now.functions parts.old state.old }
-    ensures ok { IfOk result (MovesBy (λ setup store a. a.life ≡ Running)
-        (λ setup store a. step_if_running setup program.now.functions a store (view parts.old.book a.engine) (next_sent parts.old.book a.engine) Running)
+    requires { CanFlowIf Runs program.now.functions parts.old state.old }
+    ensures ok { IfOk result (MovesBy Runs (running_move program.now.functions parts.old)
         program.now.functions parts.old parts.new state.old state.new) }
     ensures err { OnErr result (state.new ≡ state.old) }
-    ensures cut { OnErr result (CutShortBy (λ setup store a. a.life ≡ Running)
-        (λ setup store a. step_if_running setup program.now.functions a store (view parts.old.book a.engine) (next_sent parts.old.book a.engine) Running)
+    ensures cut { OnErr result (CutShortBy Runs (running_move program.now.functions parts.old)
         program.now.functions parts.old parts.new state.old) }
 {
     let at = state.progress;
@@ -76,13 +75,11 @@ fn step_unended(
     parts: &mut Parts,
     state: &mut AttemptState,
 ) -> Result<StepLine, Memory>
-    requires { CanFlowIf (λ setup store a. a.life ≡ Running) program.now.functions parts.old state.old }
-    ensures ok { IfOk result (MovesBy (λ setup store a. a.life ≡ Running)
-        (λ setup store a. step_when_called setup program.now.functions a store (view parts.old.book a.engine) (next_sent parts.old.book a.engine) None (call_of a.path (view parts.old.book a.engine)))
+    requires { CanFlowIf Runs program.now.functions parts.old state.old }
+    ensures ok { IfOk result (MovesBy Runs (unended_move program.now.functions parts.old)
         program.now.functions parts.old parts.new state.old state.new) }
     ensures err { OnErr result (state.new ≡ state.old) }
-    ensures cut { OnErr result (CutShortBy (λ setup store a. a.life ≡ Running)
-        (λ setup store a. step_when_called setup program.now.functions a store (view parts.old.book a.engine) (next_sent parts.old.book a.engine) None (call_of a.path (view parts.old.book a.engine)))
+    ensures cut { OnErr result (CutShortBy Runs (unended_move program.now.functions parts.old)
         program.now.functions parts.old parts.new state.old) }
 {
     let at = state.progress;
@@ -105,13 +102,11 @@ fn step_on(
     parts: &mut Parts,
     state: &mut AttemptState,
 ) -> Result<StepLine, Memory>
-    requires { CanFlowIf (λ setup store a. HasScript a) program.now.functions parts.old state.old }
-    ensures ok { IfOk result (MovesBy (λ setup store a. HasScript a)
-        (λ setup store a. continue_step setup program.now.functions a store (view parts.old.book a.engine) (next_sent parts.old.book a.engine) (attempt_ask program.now.functions a))
+    requires { CanFlowIf HasBegun program.now.functions parts.old state.old }
+    ensures ok { IfOk result (MovesBy HasBegun (next_move program.now.functions parts.old)
         program.now.functions parts.old parts.new state.old state.new) }
     ensures err { OnErr result (state.new ≡ state.old) }
-    ensures cut { OnErr result (CutShortBy (λ setup store a. HasScript a)
-        (λ setup store a. continue_step setup program.now.functions a store (view parts.old.book a.engine) (next_sent parts.old.book a.engine) (attempt_ask program.now.functions a))
+    ensures cut { OnErr result (CutShortBy HasBegun (next_move program.now.functions parts.old)
         program.now.functions parts.old parts.new state.old) }
 {
     if is_answered(parts, state) {
@@ -136,7 +131,7 @@ pub(crate) fn is_answered(parts: &Parts, state: &AttemptState) -> bool
         return false;
     }
     match step_at(&parts.book, at.engine, at.path, at.place) {
-        Some((_, index)) => index == at.index(),
+        Some((_, index)) => at.index() == index,
         None => false,
     }
 }

@@ -1,13 +1,10 @@
 //! The store call of an attempt's next step, whose answer is lost.
-ghost use Rattle.std.specs.Prelude.{◌≡◌, suc, List, OnErr, IfOk};
+ghost use Rattle.std.specs.Prelude.{suc, [], ◌∷◌, OnErr, IfOk};
 ghost use Rattle.boki_types.specs.declared.operation.Ask.TheVariants as k;
 ghost use Rattle.boki_types.specs.declared.operation.Op.TheVariants as o;
-ghost use Rattle.boki_types.specs.declared.program.Function.{Function};
 ghost use Rattle.boki_model.specs.Writes.{put_at};
-ghost use Rattle.boki_machine.specs.Step.{attempt_ask, misses_asked, misses_write, misses_put};
-ghost use Rattle.attempt_state.specs.Attempts.{HasScript};
-ghost use Rattle.boki_flow.specs.Arms.{Always, CanFlowIf, IsAnswered, IsAsking, MissesBy, MissCutShortBy};
-ghost use Rattle.boki_flow.specs.Flow.{missed_of};
+ghost use Rattle.boki_machine.specs.Step.{misses_record, misses_marker, misses_write, misses_put};
+ghost use Rattle.boki_flow.specs.Arms.{Always, HasBegun, FindsAnswer, ScriptAsks, SeesSeqnum, CanMissIf, MissesBy, MissCutShortBy, step_missed, next_missed, asked_missed};
 
 use crate::cases::is_answered;
 use crate::parts::Parts;
@@ -24,11 +21,11 @@ pub(crate) fn miss_attempt(
     parts: &mut Parts,
     state: &AttemptState,
 ) -> Result<Miss, Memory>
-    requires { (fs : List Function) × CanFlowIf (λ setup store a. Always setup store a) fs parts.old state.now }
-    ensures ok { IfOk result (λ what. (fs : List Function) → MissesBy (λ setup store a. Always setup store a)
-        (λ setup store a. missed_of setup fs store a parts.old) fs parts.old parts.new state.now what) }
-    ensures cut { OnErr result ((fs : List Function) → MissCutShortBy (λ setup store a. Always setup store a)
-        (λ setup store a. missed_of setup fs store a parts.old) fs parts.old parts.new state.now) }
+    requires { CanMissIf (λ fs. Always) parts.old state.now }
+    ensures ok { IfOk result (MissesBy (λ fs. Always) (λ fs. step_missed fs parts.old)
+        parts.old parts.new state.now) }
+    ensures cut { OnErr result (MissCutShortBy (λ fs. Always) (λ fs. step_missed fs parts.old)
+        parts.old parts.new state.now) }
 {
     let at = &state.progress;
     if !at.is_running() {
@@ -50,18 +47,18 @@ pub(crate) fn miss_attempt(
     }
 }
 
-/// The call of a marker that is adopted.
+/// The call of the record at the attempt's place, which is adopted.
 fn miss_record(alloc: Global, parts: &mut Parts, state: &AttemptState) -> Result<Miss, Memory>
-    requires { (fs : List Function) × CanFlowIf (λ setup store a. HasScript a × IsAnswered fs parts.old a) fs parts.old state.now }
-    ensures ok { IfOk result (λ what. (fs : List Function) → MissesBy (λ setup store a. HasScript a × IsAnswered fs parts.old a)
-        (λ setup store a. missed_of setup fs store a parts.old) fs parts.old parts.new state.now what) }
-    ensures cut { OnErr result ((fs : List Function) → MissCutShortBy (λ setup store a. HasScript a × IsAnswered fs parts.old a)
-        (λ setup store a. missed_of setup fs store a parts.old) fs parts.old parts.new state.now) }
+    requires { CanMissIf (λ fs. FindsAnswer fs parts.old) parts.old state.now }
+    ensures ok { IfOk result (MissesBy (λ fs. FindsAnswer fs parts.old) (λ fs. next_missed fs parts.old)
+        parts.old parts.new state.now) }
+    ensures cut { OnErr result (MissCutShortBy (λ fs. FindsAnswer fs parts.old) (λ fs. next_missed fs parts.old)
+        parts.old parts.new state.now) }
 {
     let at = &state.progress;
     match record_at(alloc, &parts.book, at.engine, at.path, at.place)? {
         Some((seq, body)) => {
-            let missed = miss_body(alloc, parts, at.engine, seq, &body);
+            let missed = miss_body(alloc, parts, state, seq, &body);
             drop(body);
             missed
         }
@@ -69,53 +66,80 @@ fn miss_record(alloc: Global, parts: &mut Parts, state: &AttemptState) -> Result
     }
 }
 
+/// The call of a marker, where the record at a seqnum says it is one.
 fn miss_body(
     alloc: Global,
     parts: &mut Parts,
-    engine: u32,
+    state: &AttemptState,
     seq: Seqnum,
     body: &Body,
-) -> Result<Miss, Memory> {
+) -> Result<Miss, Memory>
+    requires { CanMissIf (λ fs. SeesSeqnum parts.old seq.0) parts.old state.now }
+    ensures ok { IfOk result (MissesBy (λ fs. SeesSeqnum parts.old seq.0)
+        (λ fs setup store a. misses_record store seq.0 body.now) parts.old parts.new state.now) }
+    ensures cut { OnErr result (MissCutShortBy (λ fs. SeesSeqnum parts.old seq.0)
+        (λ fs setup store a. misses_record store seq.0 body.now) parts.old parts.new state.now) }
+{
     match body {
-        Body::Read { key, .. } => miss_marker(alloc, parts, engine, seq, key),
-        Body::ReadGroup { keys, .. } => miss_group(alloc, parts, engine, seq, keys),
+        Body::Read { key, .. } => miss_marker(alloc, parts, state, seq, key),
+        Body::ReadGroup { keys, .. } => miss_group(alloc, parts, state, seq, keys),
         _ => Ok(Miss::Nothing),
     }
 }
 
+/// The call of a marker of an object.
 fn miss_marker(
     alloc: Global,
     parts: &mut Parts,
-    engine: u32,
+    state: &AttemptState,
     seq: Seqnum,
     key: &Words,
-) -> Result<Miss, Memory> {
+) -> Result<Miss, Memory>
+    requires { CanMissIf (λ fs. SeesSeqnum parts.old seq.0) parts.old state.now }
+    ensures ok { IfOk result (MissesBy (λ fs. SeesSeqnum parts.old seq.0)
+        (λ fs setup store a. misses_marker store seq.0 (key.now ∷ [])) parts.old parts.new state.now) }
+    ensures cut { OnErr result (MissCutShortBy (λ fs. SeesSeqnum parts.old seq.0)
+        (λ fs setup store a. misses_marker store seq.0 (key.now ∷ [])) parts.old parts.new state.now) }
+{
+    let engine = state.progress.engine;
     match read_marked(alloc, &parts.book, &mut parts.store, engine, key.as_str(), seq)? {
         Answered::Gone => Ok(Miss::Nothing),
-        Answered::Value(_) => Ok(Miss::Fence),
+        Answered::Value(value) => {
+            drop(value);
+            Ok(Miss::Fence)
+        }
     }
 }
 
+/// The call of a marker of several objects.
 fn miss_group(
     alloc: Global,
     parts: &mut Parts,
-    engine: u32,
+    state: &AttemptState,
     seq: Seqnum,
     keys: &List<Words>,
-) -> Result<Miss, Memory> {
+) -> Result<Miss, Memory>
+    requires { CanMissIf (λ fs. SeesSeqnum parts.old seq.0) parts.old state.now }
+    ensures ok { IfOk result (MissesBy (λ fs. SeesSeqnum parts.old seq.0)
+        (λ fs setup store a. misses_marker store seq.0 keys.now) parts.old parts.new state.now) }
+    ensures cut { OnErr result (MissCutShortBy (λ fs. SeesSeqnum parts.old seq.0)
+        (λ fs setup store a. misses_marker store seq.0 keys.now) parts.old parts.new state.now) }
+{
+    let engine = state.progress.engine;
     match read_group_marked(alloc, &parts.book, &mut parts.store, engine, keys.as_slice(), seq)? {
         GroupAnswer::Gone => Ok(Miss::Nothing),
-        GroupAnswer::Values(_) => Ok(Miss::Fence),
+        GroupAnswer::Values(values) => {
+            drop(values);
+            Ok(Miss::Fence)
+        }
     }
 }
 
 /// The call of a write that is asked.
 fn miss_asked(parts: &mut Parts, state: &AttemptState) -> Result<Miss, Memory>
-    requires { (fs : List Function) × CanFlowIf (λ setup store a. HasScript a) fs parts.old state.now }
-    ensures ok { IfOk result (λ what. (fs : List Function) → MissesBy (λ setup store a. HasScript a)
-        (λ setup store a. misses_asked setup a store (attempt_ask fs a)) fs parts.old parts.new state.now what) }
-    ensures cut { OnErr result ((fs : List Function) → MissCutShortBy (λ setup store a. HasScript a)
-        (λ setup store a. misses_asked setup a store (attempt_ask fs a)) fs parts.old parts.new state.now) }
+    requires { CanMissIf (λ fs. HasBegun) parts.old state.now }
+    ensures ok { IfOk result (MissesBy (λ fs. HasBegun) asked_missed parts.old parts.new state.now) }
+    ensures cut { OnErr result (MissCutShortBy (λ fs. HasBegun) asked_missed parts.old parts.new state.now) }
 {
     let Some(frame) = &state.frame else {
         return Ok(Miss::Nothing);
@@ -126,17 +150,20 @@ fn miss_asked(parts: &mut Parts, state: &AttemptState) -> Result<Miss, Memory>
     }
 }
 
+/// The call of a write: a version is put in, or its value is stored under its name.
 fn miss_write(
     parts: &mut Parts,
     state: &AttemptState,
     key: &Words,
     value: &Value,
 ) -> Result<Miss, Memory>
-    requires { (fs : List Function) × CanFlowIf (λ setup store a. IsAsking fs (k.Op (o.Write key.now value.now)) a) fs parts.old state.now }
-    ensures ok { IfOk result (λ what. (fs : List Function) → MissesBy (λ setup store a. IsAsking fs (k.Op (o.Write key.now value.now)) a)
-        (λ setup store a. misses_write setup a store key.now value.now a.mode a.late) fs parts.old parts.new state.now what) }
-    ensures cut { OnErr result ((fs : List Function) → MissCutShortBy (λ setup store a. IsAsking fs (k.Op (o.Write key.now value.now)) a)
-        (λ setup store a. misses_write setup a store key.now value.now a.mode a.late) fs parts.old parts.new state.now) }
+    requires { CanMissIf (λ fs. ScriptAsks fs (k.Op (o.Write key.now value.now))) parts.old state.now }
+    ensures ok { IfOk result (MissesBy (λ fs. ScriptAsks fs (k.Op (o.Write key.now value.now)))
+        (λ fs setup store a. misses_write setup a store key.now value.now a.mode a.late)
+        parts.old parts.new state.now) }
+    ensures cut { OnErr result (MissCutShortBy (λ fs. ScriptAsks fs (k.Op (o.Write key.now value.now)))
+        (λ fs setup store a. misses_write setup a store key.now value.now a.mode a.late)
+        parts.old parts.new state.now) }
 {
     let at = &state.progress;
     if at.writes_freely() {
@@ -151,17 +178,20 @@ fn miss_write(
     }
 }
 
+/// The call of a free write.
 fn miss_put(
     parts: &mut Parts,
     state: &AttemptState,
     key: &Words,
     value: &Value,
 ) -> Result<Miss, Memory>
-    requires { (fs : List Function) × CanFlowIf (λ setup store a. IsAsking fs (k.Op (o.Write key.now value.now)) a) fs parts.old state.now }
-    ensures ok { IfOk result (λ what. (fs : List Function) → MissesBy (λ setup store a. IsAsking fs (k.Op (o.Write key.now value.now)) a)
-        (λ setup store a. misses_put (put_at key.now a.cursor (suc a.free_writes) store) a store key.now value.now) fs parts.old parts.new state.now what) }
-    ensures cut { OnErr result ((fs : List Function) → MissCutShortBy (λ setup store a. IsAsking fs (k.Op (o.Write key.now value.now)) a)
-        (λ setup store a. misses_put (put_at key.now a.cursor (suc a.free_writes) store) a store key.now value.now) fs parts.old parts.new state.now) }
+    requires { CanMissIf (λ fs. ScriptAsks fs (k.Op (o.Write key.now value.now))) parts.old state.now }
+    ensures ok { IfOk result (MissesBy (λ fs. ScriptAsks fs (k.Op (o.Write key.now value.now)))
+        (λ fs setup store a. misses_put (put_at key.now a.cursor (suc a.free_writes) store) a store key.now value.now)
+        parts.old parts.new state.now) }
+    ensures cut { OnErr result (MissCutShortBy (λ fs. ScriptAsks fs (k.Op (o.Write key.now value.now)))
+        (λ fs setup store a. misses_put (put_at key.now a.cursor (suc a.free_writes) store) a store key.now value.now)
+        parts.old parts.new state.now) }
 {
     let at = &state.progress;
     let Some(number) = at.free_writes.checked_add(1) else {
