@@ -1,6 +1,7 @@
-pub mod Parts
+pub mod KeptParts
 pub mod Moves
 pub mod Standing
 pub mod Leading
-pub mod Cases
-pub mod Missing
+pub mod StepCases
+pub mod Misses
+pub mod Adopted

@@ -16,7 +16,7 @@ use Rattle.attempt_store.specs.Moved.{IsMovedAlone, MovesStore}
 use Rattle.boki_flow.specs.declared.parts.Parts.{Parts}
 use Rattle.boki_flow.specs.Parts.{PartsStandFor}
 use Rattle.boki_flow.specs.Flow.{IsMoved}
-use Rattle.boki_flow.proofs.Parts.{appended_stands, stored_stands}
+use Rattle.boki_flow.proofs.KeptParts.{appended_stands, stored_stands}
 
 module _ (setup : Setup) (fs : List Function) (engine : ℕ) (store : Store) (old : Parts) (stands : PartsStandFor setup store old) (move : Move) (state : AttemptState) (told : StepLine) where
   -- nothing but the attempt changes

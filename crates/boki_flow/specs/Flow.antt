@@ -20,10 +20,10 @@ use Rattle.boki_flow.specs.Parts.{PartsStandFor}
 
 -- The parts and what is kept of an attempt stand for this store and this attempt, and the attempt can be stepped.
 pub record FlowStandsFor
-    (setup : Setup) (fs : List Function) (store : Store) (a : Attempt) (parts : Parts) (kept : AttemptState) : Type 0 where
-  pub parts : PartsStandFor setup store parts
+    (setup : Setup) (fs : List Function) (store : Store) (a : Attempt) (all : Parts) (kept : AttemptState) : Type 0 where
+  pub parts : PartsStandFor setup store all
   pub attempt : AttemptStandsFor fs a kept
-  pub can : CanStep setup fs store (live_bodies parts.book) (position parts.book a.engine) a
+  pub can : CanStep setup fs store (live_bodies all.book) (position all.book a.engine) a
 
 -- They stand for some: what each call on an attempt that runs on parts needs.
 pub record CanFlow (fs : List Function) (parts : Parts) (kept : AttemptState) : Type 0 where

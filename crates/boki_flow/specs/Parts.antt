@@ -54,7 +54,7 @@ pub record IsCutShort (setup : Setup) (store after : Store) (old new : Parts) : 
 
 -- The engine is one of the book's, it has its caches, and they may be asked: what a call on the caches needs of the parts.
 pub record HasEngineParts (engine : ℕ) (parts : Parts) : Type 0 where
-  pub engine : HasEngine engine parts.book
+  pub there : HasEngine engine parts.book
   pub setup : Setup
   pub store : Store
   pub stands : PartsStandFor setup store parts

@@ -168,7 +168,7 @@ module _ (fs : List Function) (parts : Parts) (kept : AttemptState) where
       (sym (ap (λ (call : Option Call). step_when_called setup fs a store seen at None call) (call_is a None stands.attempt e)))
       (stays setup fs store a parts kept line.WaitsCall stands)
 
-  abbrev init_move : Call → Setup → Store → Attempt → Move
+  abbrev pub init_move : Call → Setup → Store → Attempt → Move
   init_move call setup store a =
       init_step setup fs a store (view parts.book a.engine) (next_sent parts.book a.engine) call (nth (step_tag a.path) 0 (view parts.book a.engine))
 
@@ -194,6 +194,9 @@ module _ (fs : List Function) (parts : Parts) (kept : AttemptState) where
     same = λ setup store a stands script. refl;
   }
 
+  abbrev pub script_move : Setup → Store → Attempt → Move
+  script_move setup store a = script_step setup fs a store (view parts.book a.engine) (next_sent parts.book a.engine) (attempt_ask fs a)
+
   module _ (good : Bool) (e : good ≡ false) (answers : Answers good) where
     none_there : (setup : Setup) (store : Store) (a : Attempt) → FlowStandsFor setup fs store a parts kept → HasScript a
         → answers_to a (attempt_ask fs a) (nth (step_tag a.path) a.place (view parts.book a.engine)) ≡ None
@@ -201,9 +204,6 @@ module _ (fs : List Function) (parts : Parts) (kept : AttemptState) where
 
     waiting_is : (a : Attempt) (w : Bool) → AttemptStandsFor fs a kept → kept.progress.waiting ≡ w → a.waiting ≡ w
     waiting_is a w stands is = sym (ap (λ (p : Progress). p.waiting) stands.progress) ∙ is
-
-    abbrev script_move : Setup → Store → Attempt → Move
-    script_move setup store a = script_step setup fs a store (view parts.book a.engine) (next_sent parts.book a.engine) (attempt_ask fs a)
 
     by_waiting : (setup : Setup) (store : Store) (a : Attempt) (w : Bool) → FlowStandsFor setup fs store a parts kept → HasScript a → kept.progress.waiting ≡ w
         → unless_waiting w a store (script_move setup store a) ≡ next_move fs parts setup store a

@@ -1,5 +1,5 @@
 -- An attempt adopts the record at its place.
-use Rattle.std.proofs.Common.{◌≡◌, ◌∙◌, ◌⊎◌, inl, inr, ℕ, suc, ◌<◌, ◌≤◌, Bool, true, false, cond, ltb, List, [], ◌∷◌, length, Option, Some, None, option_map, refl, sym, ap, subst, arith}
+use Rattle.std.proofs.Common.{◌≡◌, ◌∙◌, ◌⊎◌, inl, inr, ℕ, suc, ◌<◌, ◌≤◌, Bool, true, false, cond, ltb, List, [], ◌∷◌, ◌+◌, ◌^◌, length, Option, Some, None, option_map, refl, sym, ap, subst, arith}
 use Rattle.std.specs.Prelude.{zip}
 use Rattle.std.specs.Option.{option_map_or, option_and_then}
 use Rattle.lb_base.specs.declared.value.Outcome.{Outcome}
@@ -29,8 +29,8 @@ use Rattle.boki_machine.specs.Step.{records_below, is_committed, fenced_value, r
 use Rattle.machine_laws.specs.Adopts.{AdoptsAsked, RecordsOperation, adopted_answer}
 use Rattle.machine_laws.specs.Children.{HasPath}
 use Rattle.machine_laws.specs.Ends.{finish_in, last_tagged}
-use Rattle.script_run.specs.Answering.{Takes}
-use Rattle.book_api.specs.Books.{position, next_sent}
+use Rattle.script_run.specs.Answering.{Takes, IsOfKind}
+use Rattle.book_api.specs.Books.{HasEngine, position, next_sent}
 use Rattle.step_log.specs.Sound.{live_bodies, view, seqnum_and_body}
 use Rattle.hm_read.specs.Kept.{IsKept, AreKept}
 use Rattle.obj_store.specs.Kept.{StoreState}
@@ -45,14 +45,14 @@ use Rattle.attempt_state.specs.Attempts.{AttemptStandsFor, FrameTakes, HasScript
 use Rattle.attempt_state.specs.Progresses.{progress_of, adopted_progress}
 use Rattle.attempt_store.specs.Moved.{EitherKept, FrameAsks, MovesStore, after_marker}
 use Rattle.boki_flow.specs.declared.parts.Parts.{Parts}
-use Rattle.boki_flow.specs.Parts.{PartsStandFor, IsCutShort, KeepsParts}
+use Rattle.boki_flow.specs.Parts.{PartsStandFor, IsCutShort, HasEngineParts, KeepsParts}
 use Rattle.boki_flow.specs.Flow.{FlowStandsFor, IsMoved}
 use Rattle.boki_flow.specs.Arms.{FindsAnswer, IsAdopting, AdoptsBody, IsTaking, IsTakingCommit, TakesAnswer, TakesPop, TakesCommit, MovesBy, CutShortBy, next_move, adopting_move, joined_move, popped_move, begun_move, committed_move}
-use Rattle.boki_flow.proofs.Parts.{stored_stands}
+use Rattle.boki_flow.proofs.KeptParts.{stored_stands}
 use Rattle.boki_flow.proofs.Moves.{store_moves}
 use Rattle.boki_flow.proofs.Leading.{Leads}
-use Rattle.boki_flow.proofs.Standing.{frame_asks, frame_takes}
-use Rattle.boki_flow.proofs.Cases.{Found, found_there, found_none, stays}
+use Rattle.boki_flow.proofs.Standing.{engine_is, has_engine, few, frame_asks, frame_takes}
+use Rattle.boki_flow.proofs.StepCases.{Found, found_there, found_none, stays}
 
 -- What follows where no record is of the operation isn't looked at.
 other_is : (fs : List Function) (store : Store) (seen : List (Live Body)) (t : Attempt) (seq : ℕ) (body : Body) (op : Op) (first second : Move)
@@ -153,7 +153,7 @@ module _ (fs : List Function) (parts : Parts) (kept : AttemptState) (seq : Seqnu
   changed_is a stands = ap (adopted_progress seq.0) stands.progress
 
   module _ (setup : Setup) (store : Store) (a : Attempt) (stands : FlowStandsFor setup fs store a parts kept) (adopting : IsAdopting fs store parts seq.0 body a) where
-    seen : List (Live Body)
+    abbrev pub seen : List (Live Body)
     seen = view parts.book a.engine
 
     pub within : seq.0 ≤ position parts.book a.engine
@@ -300,10 +300,115 @@ module _ (fs : List Function) (parts : Parts) (kept : AttemptState) (seq : Seqnu
       by (inl before) = inl (stored_stands setup store parts stands.parts stored store before)
       by (inr behind) = inr (subst (λ (m : Store). PartsStandFor setup m (record parts { store = stored })) after_is (stored_stands setup store parts stands.parts stored (after_marker seq.0 keys store) behind))
 
--- Joins, pops, begins and commits.
-module _ (fs : List Function) (parts new : Parts) (kept after : AttemptState) (changed : Progress) (told : StepLine) (keeps : KeepsParts parts new) where
-  engine_is : (a : Attempt) → changed ≡ progress_of (adopts a changed.cursor.0) → changed.engine ≡ a.engine
-  engine_is a is = ap (λ (p : Progress). p.engine) is
+-- What a call needs of an attempt that takes an answer.
+module _ (fs : List Function) (parts : Parts) (kept : AttemptState) (changed : Progress) where
+  -- its premise says that it takes one
+  abbrev Taking : (Setup → Store → Attempt → Type 0) → Op → Type 0
+  Taking P op = (setup : Setup) (store : Store) (a : Attempt) → P setup store a → IsTaking fs (k.Op op) changed.cursor.0 changed a
 
-  path_is : (a : Attempt) → changed ≡ progress_of (adopts a changed.cursor.0) → changed.path ≡ a.path
-  path_is a is = ap (λ (p : Progress). p.path) is
+  module _ (setup : Setup) (store : Store) (a : Attempt) (stands : FlowStandsFor setup fs store a parts kept) (op : Op) (taking : IsTaking fs (k.Op op) changed.cursor.0 changed a) where
+    pub taking_engine : HasEngineParts changed.engine parts
+    taking_engine = record {
+      there = subst (λ (n : ℕ). HasEngine n parts.book) (engine_is setup fs store a parts kept stands ∙ sym (ap (λ (p : Progress). p.engine) taking.changed_is)) (has_engine setup fs store a parts kept stands);
+      setup = setup;
+      store = store;
+      stands = stands.parts;
+    }
+
+    pub taking_room : changed.answered + 1 < 2 ^ 64
+    taking_room =
+        let is : changed.answered ≡ length a.answers = ap (λ (p : Progress). p.answered) taking.changed_is in
+        let bound = stands.attempt.room in
+        omega arith
+
+    pub taking_few : length fs < 2 ^ 32
+    taking_few = few setup fs store a parts kept stands
+
+    pub taking_takes : (answer : Answer) → IsOfKind op answer → FrameTakes kept.frame answer
+    taking_takes answer fits = frame_takes setup fs store a parts kept stands taking.script (k.Op op) taking.asked answer fits
+
+    pub taking_child : HasPath a.path op → HasPath changed.path op
+    taking_child has = subst (λ (path : List ℕ). HasPath path op) (sym (ap (λ (p : Progress). p.path) taking.changed_is)) has
+
+-- a begin has as many values as names
+pub values_count : (names : List (List ℕ)) (stored : List (List ℕ × Value)) → length (values_of_names names stored) ≡ length names
+values_count [] stored = refl
+values_count (name ∷ names) stored = ap suc (values_count names stored)
+
+-- Joins, pops, begins and commits.
+module _ (fs : List Function) (parts new : Parts) (kept after : AttemptState) (changed : Progress) (answer : Answer) (told : StepLine) (keeps : KeepsParts parts new) where
+  view_is : (a : Attempt) → changed ≡ progress_of (adopts a changed.cursor.0) → view parts.book changed.engine ≡ view parts.book a.engine
+  view_is a is = ap (λ (p : Progress). view parts.book p.engine) is
+
+  module _ (ordinal : ℕ) (path : List ℕ) (path_is : path ≡ child changed.path ordinal) where
+    abbrev Ends : Option Outcome → Type 0
+    Ends outcome = outcome ≡ finish_in path (last_tagged (step_tag path) (view parts.book changed.engine))
+
+    child_is : (a : Attempt) → changed ≡ progress_of (adopts a changed.cursor.0) → path ≡ child a.path ordinal
+    child_is a is = path_is ∙ ap (λ (p : Progress). child p.path ordinal) is
+
+    result_is : (setup : Setup) (store : Store) (a : Attempt) (outcome : Option Outcome) → FlowStandsFor setup fs store a parts kept → changed ≡ progress_of (adopts a changed.cursor.0) → Ends outcome
+        → outcome ≡ result_of (child a.path ordinal) (view parts.book a.engine)
+    result_is setup store a outcome stands is e =
+        e
+        ∙ ap (λ (records : List (Live Body)). finish_in path (last_tagged (step_tag path) records)) (view_is a is)
+        ∙ ap (λ (p : List ℕ). finish_in p (last_tagged (step_tag p) (view parts.book a.engine))) (child_is a is)
+        ∙ sym (stands.can.sees.ends (child a.path ordinal)).result
+
+    pub join_waits : Ends None → MovesBy (TakesAnswer fs (k.Op (o.Join ordinal)) changed) (joined_move parts changed ordinal) fs parts parts kept kept (line.WaitsJoin path)
+    join_waits e setup store a stands taking =
+        let is = taking.changed_is in
+        subst (λ (move : Move). IsMoved setup fs a.engine move parts parts kept (line.WaitsJoin path))
+        (ap (λ (p : List ℕ). moves a store (line.WaitsJoin p)) (child_is a is)
+        ∙ ap (adopts_join a store changed.cursor.0 (child a.path ordinal)) (result_is setup store a None stands is e))
+        (stays setup fs store a parts kept (line.WaitsJoin path) stands)
+
+    pub join_takes : (outcome : Outcome) → Ends (Some outcome) → answer ≡ ans.Joined outcome → told ≡ line.AdoptJoin changed.cursor path outcome → AnswerTaken fs changed answer kept after
+        → MovesBy (TakesAnswer fs (k.Op (o.Join ordinal)) changed) (joined_move parts changed ordinal) fs parts new kept after told
+    join_takes outcome e answer_is told_is taken setup store a stands taking =
+        let is = taking.changed_is in
+        subst (λ (move : Move). IsMoved setup fs a.engine move parts new after told)
+        (ap (λ (x : Answer). adopts_answer a store changed.cursor.0 x (line.AdoptJoin changed.cursor path outcome)) answer_is
+        ∙ ap (λ (p : List ℕ). adopts_answer a store changed.cursor.0 (ans.Joined outcome) (line.AdoptJoin changed.cursor p outcome)) (child_is a is)
+        ∙ ap (adopts_join a store changed.cursor.0 (child a.path ordinal)) (result_is setup store a (Some outcome) stands is e))
+        (answers_so fs parts new kept after changed answer (line.AdoptJoin changed.cursor path outcome) told keeps told_is taken setup store a stands taking.script changed.cursor.0 is)
+
+  pub pop_takes : (queue : List ℕ) (v : Value) → v ≡ front queue (queues (records_below changed.cursor.0 (view parts.book changed.engine))) → answer ≡ ans.Value v
+      → told ≡ line.AdoptPop changed.cursor queue v → AnswerTaken fs changed answer kept after
+      → MovesBy (TakesPop fs parts queue changed) (popped_move parts changed queue) fs parts new kept after told
+  pop_takes queue v e answer_is told_is taken setup store a stands p =
+      let taking = p.1 in
+      let is = taking.changed_is in
+      subst (λ (move : Move). IsMoved setup fs a.engine move parts new after told)
+      (ap (λ (x : Answer). adopts_answer a store changed.cursor.0 x (line.AdoptPop changed.cursor queue v)) answer_is
+      ∙ ap (λ (w : Value). adopts_answer a store changed.cursor.0 (ans.Value w) (line.AdoptPop changed.cursor queue w))
+        (e ∙ ap (λ (records : List (Live Body)). front queue (queues (records_below changed.cursor.0 records))) (view_is a is)))
+      (answers_so fs parts new kept after changed answer (line.AdoptPop changed.cursor queue v) told keeps told_is taken setup store a stands taking.script changed.cursor.0 is)
+
+  pub begin_takes : (names : List (List ℕ)) (vs : List Value) (at : Progress)
+      → vs ≡ values_of_names names (store_values (commits (records_below changed.cursor.0 (view parts.book changed.engine)))) → answer ≡ ans.Values vs
+      → told ≡ line.AdoptBegin changed.cursor (zip names vs) → at ≡ record changed { transaction = Some changed.cursor } → AnswerTaken fs at answer kept after
+      → MovesBy (TakesAnswer fs (k.Op (o.Begin names)) changed) (begun_move parts changed names) fs parts new kept after told
+  begin_takes names vs at e answer_is told_is at_is taken setup store a stands taking =
+      let is = taking.changed_is in
+      let t : Attempt = record a { transaction = Some changed.cursor.0 } in
+      subst (λ (move : Move). IsMoved setup fs a.engine move parts new after told)
+      (ap (λ (x : Answer). adopts_answer t store changed.cursor.0 x (line.AdoptBegin changed.cursor (zip names vs))) answer_is
+      ∙ ap (λ (ws : List Value). adopts_answer t store changed.cursor.0 (ans.Values ws) (line.AdoptBegin changed.cursor (zip names ws)))
+        (e ∙ ap (λ (records : List (Live Body)). values_of_names names (store_values (commits (records_below changed.cursor.0 records)))) (view_is a is)))
+      (answers_with fs parts new kept after at answer (line.AdoptBegin changed.cursor (zip names vs)) told keeps told_is taken setup store a stands taking.script changed.cursor.0
+      (Some changed.cursor.0) (at_is ∙ ap (λ (p : Progress). record p { transaction = Some changed.cursor }) is))
+
+  pub commit_takes : (good : Bool) (at : Progress) → good ≡ is_committed changed.cursor.0 (view parts.book changed.engine) → answer ≡ ans.Committed good
+      → told ≡ line.AdoptCommit changed.cursor good → at ≡ record changed { transaction = None } → AnswerTaken fs at answer kept after
+      → MovesBy (TakesCommit fs parts changed) (committed_move parts changed) fs parts new kept after told
+  commit_takes good at e answer_is told_is at_is taken setup store a stands p =
+      let taking = p.1.takes in
+      let is = taking.changed_is in
+      let t : Attempt = record a { transaction = None } in
+      subst (λ (move : Move). IsMoved setup fs a.engine move parts new after told)
+      (ap (λ (x : Answer). adopts_answer t store changed.cursor.0 x (line.AdoptCommit changed.cursor good)) answer_is
+      ∙ ap (λ (b : Bool). adopts_answer t store changed.cursor.0 (ans.Committed b) (line.AdoptCommit changed.cursor b))
+        (e ∙ ap (is_committed changed.cursor.0) (view_is a is)))
+      (answers_with fs parts new kept after at answer (line.AdoptCommit changed.cursor good) told keeps told_is taken setup store a stands taking.script changed.cursor.0
+      None (at_is ∙ ap (λ (p : Progress). record p { transaction = None }) is))

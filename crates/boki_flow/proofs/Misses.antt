@@ -49,10 +49,10 @@ use Rattle.boki_flow.specs.declared.parts.Parts.{Parts}
 use Rattle.boki_flow.specs.Parts.{PartsStandFor, IsCutShort}
 use Rattle.boki_flow.specs.Flow.{FlowStandsFor, IsMissed}
 use Rattle.boki_flow.specs.Arms.{Always, HasBegun, FindsAnswer, ScriptAsks, SeesSeqnum, MissesBy, MissCutShortBy, step_missed, next_missed, asked_missed}
-use Rattle.boki_flow.proofs.Parts.{stored_stands}
+use Rattle.boki_flow.proofs.KeptParts.{stored_stands}
 use Rattle.boki_flow.proofs.Leading.{Leads}
 use Rattle.boki_flow.proofs.Standing.{asks_is, no_frame}
-use Rattle.boki_flow.proofs.Cases.{Found, runs_by, none_by, life_is, result_is, place_is, begun, found_there}
+use Rattle.boki_flow.proofs.StepCases.{Found, runs_by, none_by, life_is, result_is, place_is, begun, found_there}
 
 -- Nothing is done.
 pub misses_none : (setup : Setup) (fs : List Function) (store : Store) (a : Attempt) (parts : Parts) (kept : AttemptState)
@@ -178,7 +178,9 @@ module _ (parts : Parts) (kept : AttemptState) where
       → Some (seq, body) ≡ option_map seqnum_and_body (nth (step_tag kept.progress.path) kept.progress.place (view parts.book kept.progress.engine))
       → (fs : List Function) → Leads (FindsAnswer fs parts) (SeesSeqnum parts seq.0) (next_missed fs parts) (λ setup store a. misses_record store seq.0 body) fs parts kept
   misses_found seq body e fs = record {
-    needs = λ setup store a stands p. (found_there fs parts kept seq body e setup store a stands p).within;
+    needs = λ setup store a stands p.
+        let found = found_there fs parts kept seq body e setup store a stands p in
+        subst (λ (n : ℕ). n ≤ position parts.book a.engine) found.seq_is found.within;
     same = λ setup store a stands p.
         let found = found_there fs parts kept seq body e setup store a stands p in
         sym (ap (misses_at setup a store (attempt_ask fs a)) found.answers
@@ -361,8 +363,8 @@ module _ (parts : Parts) (kept : AttemptState) (key : List ℕ) (v : Value) wher
         is_kept : (told : Named) → Stores told → IsKept after (after_put_named (next_write_name a) a.cursor v store) (live_bodies parts.book)
         is_kept told stores = (told_is told stores).after store (live_bodies parts.book) stands.parts.kept.store stands.can.may.settled
 
-        full : Store
-        full = record store { named = add_if_new (next_write_name a) v store.named }
+        abbrev with_name : Store
+        with_name = record store { named = add_if_new (next_write_name a) v store.named }
 
         name_does : (low : Bool) (told : Miss) → ltb a.cursor store.floor ≡ low → told ≡ (misses_store low a store v).what
             → IsKept after (misses_store low a store v).store (live_bodies parts.book) → IsMissed setup (write_missed fs setup store a) parts (record parts { store = after }) told
@@ -371,7 +373,7 @@ module _ (parts : Parts) (kept : AttemptState) (key : List ℕ) (v : Value) wher
             (ap (λ (l : Bool). misses_store l a store v) (sym is) ∙ by_there fs setup store a false stands absent)
             (store_misses setup store parts after (misses_store low a store v) told stands.parts what_is kept_after)
 
-        name_gone_by : (low : Bool) → ltb a.cursor store.floor ≡ low → named.Gone ≡ cond low named.Gone named.Done → IsKept after (cond low store full) (live_bodies parts.book)
+        name_gone_by : (low : Bool) → ltb a.cursor store.floor ≡ low → named.Gone ≡ cond low named.Gone named.Done → IsKept after (cond low store with_name) (live_bodies parts.book)
             → IsMissed setup (write_missed fs setup store a) parts (record parts { store = after }) what.Nothing
         name_gone_by true is e kept_after = name_does true what.Nothing is refl kept_after
         name_gone_by false is e kept_after = absurd (let no_way : named.Gone ≡ named.Done = e in cc)
