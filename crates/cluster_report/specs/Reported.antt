@@ -36,10 +36,10 @@ report_in fs m book = record {
 
 -- The object store stands for the store m beside the book, and it still has what the report asks for: its floor isn't above the
 -- newest seqnum, and no step record of an invocation that hasn't ended is below it; and a Finish is its path's last step record.
-pub record CanReport (book : BookState) (kept : StoreState) (m : Store) : Type 0 where
-  pub kept : AreKept book kept m
+pub record CanReport (book : BookState) (state : StoreState) (m : Store) : Type 0 where
+  pub kept : AreKept book state m
   pub within : m.floor ≤ length (ordered book)
-  pub open :
+  pub running :
       (path : List ℕ) (x : Live Body) (index : ℕ) → result_of path (live_bodies book) ≡ None
       → IsAmong x (live_bodies book) → step_of x.holds ≡ Some (path, index) → m.floor ≤ x.seq
   pub ends : (path : List ℕ) → EndsLast path (live_bodies book)

@@ -1,5 +1,5 @@
 -- What is told of the known keys.
-use Rattle.std.specs.Prelude.{◌≡◌, ℕ, suc, ◌≤◌, List, [], ◌∷◌, Option, option_map, Unit, tt}
+use Rattle.std.specs.Prelude.{◌≡◌, ℕ, suc, ◌≤◌, List, [], ◌∷◌, Option, option_map}
 use Rattle.lb_base.specs.declared.value.Value.{Value}
 use Rattle.boki_types.specs.declared.body.Body.{Body}
 use Rattle.boki_model.specs.Live.{Live}
@@ -27,6 +27,6 @@ values_upto last m records (e ∷ es) =
     add_value e.0 (last_value_below e.0 (suc last) 0 m records) (values_upto last m records es)
 
 -- the store, and some records, are those of a report whose last seqnum is this one
-pub record CanTell (last : ℕ) (kept : StoreState) (m : Store) (records : List (Live Body)) : Type 0 where
-  pub kept : IsKept kept m records
+pub record CanTell (last : ℕ) (state : StoreState) (m : Store) (records : List (Live Body)) : Type 0 where
+  pub kept : IsKept state m records
   pub within : m.floor ≤ last

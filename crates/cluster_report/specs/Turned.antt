@@ -13,9 +13,9 @@ use Rattle.boki_model.specs.Writes.{Store, versions_at}
 use Rattle.boki_machine.specs.Turns.{turn_of, add_next_index}
 use Rattle.obj_store.specs.Kept.{StoreState}
 use Rattle.obj_store.specs.StandsFor.{StandsFor}
-use Rattle.cluster_report.specs.declared.turns.Walk.{Walk}
-use Rattle.cluster_report.specs.declared.turns.TurnKind.{TurnKind}
-use Rattle.cluster_report.specs.declared.turns.TurnKind.TheVariants as kind
+use Rattle.cluster_report.specs.declared.turning.Walk.{Walk}
+use Rattle.cluster_report.specs.declared.turning.TurnKind.{TurnKind}
+use Rattle.cluster_report.specs.declared.turning.TurnKind.TheVariants as kind
 
 -- A step record but a Finish gives a go: it has an operation of its own, which an Init doesn't have.
 abbrev pub kind_of : Body → TurnKind

@@ -1,6 +1,6 @@
 //! The folds of the whole list, from the oldest record up: results, queues and store names, and the last logged write of each
 //! object.
-ghost use Rattle.std.specs.Prelude.{◌≡◌, ◌∷◌, [], Some, None, option_map, OnOk, IfOk};
+ghost use Rattle.std.specs.Prelude.{◌≡◌, [], cond, Some, None, option_map, OnOk, IfOk};
 ghost use Rattle.boki_model.specs.Maps.{get, put};
 ghost use Rattle.boki_model.specs.Folds.{push_queue, pop_queue};
 ghost use Rattle.boki_machine.specs.Reports.{add_first_result};
@@ -170,7 +170,8 @@ fn push(
     ensures { OnOk result (queues.new.entries ≡ push_queue name value queues.old.entries) }
 {
     if let Some(queue) = queues.get_mut(&name) {
-        return queue.push(value);
+        queue.push(value)?;
+        return Ok(());
     }
     let mut queue = Queue::new(alloc);
     queue.push(value)?;
@@ -199,7 +200,7 @@ fn commit(
     writes: List<(Words, Value)>,
 ) -> Result<(), Memory>
     ensures { OnOk result (names.new
-        ≡ if may_commit begin read writes names.old then put_writes seq.0 writes names.old else names.old) }
+        ≡ cond (may_commit begin read writes names.old) (put_writes seq.0 writes names.old) names.old) }
 {
     if names.may_commit(begin, read.as_slice(), writes.as_slice()) {
         names.put_writes(writes.as_slice(), seq.0)?;

@@ -4,11 +4,11 @@
 
 mod folds;
 pub mod laws;
-mod objects;
+mod values;
 mod queue;
 mod report;
 mod telling;
-mod turns;
+mod turning;
 mod walk;
 
 pub use boki_types::{Report, Turn};

@@ -9,7 +9,7 @@ ghost use Rattle.cluster_report.specs.Folded.{maps_of, folded};
 ghost use Rattle.cluster_report.specs.Reported.{CanReport, objects_in, report_in};
 
 use crate::folds::{Folds, folds_of};
-use crate::turns::turns_of;
+use crate::turning::turns_of;
 use boki_types::{Program, Report, Turn};
 use book_api::Book;
 use lb_base::{List, Memory, Outcome, Path, Seqnum, Value, Words};

@@ -1,5 +1,5 @@
 use Rattle.std.proofs.Common.{◌≡◌, ◌++◌}
-use Rattle.std.specs.VecDeque.{deque_iter_rest}
+use Rattle.std.specs.VecDeque.Iter.{deque_iter_rest}
 use Rattle.cluster_report.proofs.queue.Queue.copied.Given as goal
 
 abbrev pub invariant-loop-value : goal.invariant-loop-value

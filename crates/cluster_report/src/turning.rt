@@ -191,8 +191,8 @@ fn operations(
     seq: Seqnum,
 ) -> Result<u64, Memory>
     ensures { IfOk result (λ n. (m : Store) (records : List (Live Said)) → StandsFor store.now m records
-        → (option_copied next ≡ None → m.floor ≤ seq.0)
-        → n ≡ model.operation_count (option_copied next) index own (versions_at seq.0 m.versions)) }
+        → (option_copied next.entry ≡ None → m.floor ≤ seq.0)
+        → n ≡ model.operation_count (option_copied next.entry) index own (versions_at seq.0 m.versions)) }
 {
     match next {
         Some(next) => Ok(next.saturating_sub(index)),
