@@ -106,6 +106,6 @@ pub fn print_report(alloc: Global, report: &Report, program: &Program) -> Result
     let objects = name_value_lines(alloc, "object ", report.objects.as_slice())?;
     let queues = queues_string(alloc, report.queues.as_slice())?;
     let stores = name_value_lines(alloc, "store ", report.stores.as_slice())?;
-    let text = format!(in alloc; "report\n{turns}{results}{objects}{stores}{queues}end\n")?;
+    let text = format!(in alloc; "report\n{turns}{results}{objects}{queues}{stores}end\n")?;
     Ok(Words::from_string(text))
 }
