@@ -20,7 +20,7 @@ use step_log::send;
 /// record, if any. The attempt then waits for it. After `Memory` book and attempt are as before.
 ///
 /// The attempt's engine is to be one of the book, the index of its next operation is to have 64 bits, the record is to be in range,
-/// and a child that is asked for is to have a path. That what is live is as before no clause says.
+/// and a child that is asked for is to have a path. What is live is as before.
 pub fn send_asked(
     alloc: Global,
     program: &Program,

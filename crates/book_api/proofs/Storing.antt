@@ -94,6 +94,14 @@ stored_append shards metalog sent shard r h has room = record {
 }
 
 -- the ordered list stays
+pub kept_ordered : (shards new : ShardsState) (metalog : MetalogState) (indexes : List Index) (aux : List (LruCache ℕ (List ℕ))) (sent shard : ℕ) (r : Record) (b : books.BookState)
+    → AreStored shards metalog sent → book_state_of shards metalog indexes aux ≡ b → new ≡ appended shard r shards
+    → books.ordered (book_state_of new metalog indexes aux) ≡ books.ordered b
+kept_ordered shards new metalog indexes aux sent shard r b h view is =
+    ap (λ (s : ShardsState). order s.shards metalog.vectors) is
+    ∙ order_stays (shard - 1) r shards.shards metalog.vectors h.grow h.ordered.have
+    ∙ ap books.ordered view
+
 pub log_append : (shards : ShardsState) (metalog : MetalogState) (sent shard : ℕ) (r : Record) → AreStored shards metalog sent → log_in (appended shard r shards) metalog ≡ log_in shards metalog
 log_append shards metalog sent shard r h = ap (map entry_of) (order_stays (shard - 1) r shards.shards metalog.vectors h.grow h.ordered.have)
 

@@ -76,10 +76,11 @@ next_sent b engine = record { shard = home_shard b engine; local = suc (length (
 abbrev pub appended : ℕ → Record → BookState → BookState
 appended engine r b = record b { shards = add_to (home_shard b engine - 1) r b.shards }
 
--- an engine's record was added, and this is where it stands
+-- an engine's record was added, and this is where it stands; it is in no order yet
 pub record IsSent (engine : ℕ) (r : Record) (old new : BookState) (sent : Sent) : Type 0 where
   pub location : sent ≡ next_sent old engine
   pub after : new ≡ appended engine r old
+  pub ordered : ordered new ≡ ordered old
 
 -- the records that the calls make
 abbrev pub unconditional_record : List Tag → List ℕ → Record

@@ -1,5 +1,4 @@
-//! Logged writes and markers are sent. What is live is then as before where the shards have the records that the vectors order
-//! (`HasOrdered`). They do in every book, but no clause of `Book` says so: it is for the caller to know.
+//! Logged writes and markers are sent. What is live is then as before.
 ghost use Rattle.std.specs.Prelude.{◌≡◌, IsTrue, IfOk, OnErr};
 ghost use Rattle.std.specs.Option.{option_copied};
 ghost use Rattle.boki_types.specs.declared.body.Body.TheVariants as body;
@@ -7,7 +6,7 @@ ghost use Rattle.boki_model.specs.Bodies.{in_range};
 ghost use Rattle.exactly_once.specs.FurtherLaws.StepRecords.{place_condition};
 ghost use Rattle.book_api.specs.Books.{HasEngine};
 ghost use Rattle.step_log.specs.Sound.{Sound, IsBodySent, live_bodies};
-ghost use Rattle.hm_write.specs.Sends.{write_body, HasOrdered};
+ghost use Rattle.hm_write.specs.Sends.{write_body};
 
 use boki_types::Body;
 use book_api::{Book, Sent};
@@ -17,8 +16,8 @@ use std::alloc::Global;
 use step_log::send;
 
 /// Sends a logged write as the record at its name's place, with this index and object, and with its value where one is given; else
-/// the value is to be under its name. It answers where the record stands. The fields are to be in range. What is live is as before,
-/// in a book that has what it orders; after `Memory` the whole book is.
+/// the value is to be under its name. It answers where the record stands. The fields are to be in range. What is live is as before;
+/// after `Memory` the whole book is.
 pub fn send_write(
     alloc: Global,
     book: &mut Book,
@@ -33,7 +32,7 @@ pub fn send_write(
     ensures ok { IfOk result (IsBodySent engine (place_condition name.path name.place)
         (write_body name index key.now (option_copied value.entry)) book.old book.new) }
     ensures sound { Sound book.old → Sound book.new }
-    ensures stays { HasOrdered book.old → live_bodies book.new ≡ live_bodies book.old }
+    ensures stays { live_bodies book.new ≡ live_bodies book.old }
     ensures err { OnErr result (book.new ≡ book.old) }
 {
     let key = Words::from_text(alloc, key)?;
@@ -49,8 +48,8 @@ pub fn send_write(
 }
 
 /// Sends a marker: the invocation reads the object at this record, at this place of its step log and with this index. It answers
-/// where the record stands. The fields are to be in range. What is live is as before, in a book that has what it orders; after
-/// `Memory` the whole book is.
+/// where the record stands. The fields are to be in range. What is live is as before; after `Memory` the
+/// whole book is.
 pub fn mark_read(
     alloc: Global,
     book: &mut Book,
@@ -65,7 +64,7 @@ pub fn mark_read(
     ensures ok { IfOk result (IsBodySent engine (place_condition path place)
         (body.Read path index key.now) book.old book.new) }
     ensures sound { Sound book.old → Sound book.new }
-    ensures stays { HasOrdered book.old → live_bodies book.new ≡ live_bodies book.old }
+    ensures stays { live_bodies book.new ≡ live_bodies book.old }
     ensures err { OnErr result (book.new ≡ book.old) }
 {
     let key = Words::from_text(alloc, key)?;
@@ -94,7 +93,7 @@ pub fn mark_group(
     ensures ok { IfOk result (IsBodySent engine (place_condition path place)
         (body.ReadGroup path index keys.now) book.old book.new) }
     ensures sound { Sound book.old → Sound book.new }
-    ensures stays { HasOrdered book.old → live_bodies book.new ≡ live_bodies book.old }
+    ensures stays { live_bodies book.new ≡ live_bodies book.old }
     ensures err { OnErr result (book.new ≡ book.old) }
 {
     let keys = copy_keys(alloc, keys)?;
@@ -121,7 +120,7 @@ fn send_dropped(
     requires range { IsTrue (in_range body) }
     ensures ok { IfOk result (IsBodySent engine (place_condition path place) body book.old book.new) }
     ensures sound { Sound book.old → Sound book.new }
-    ensures stays { HasOrdered book.old → live_bodies book.new ≡ live_bodies book.old }
+    ensures stays { live_bodies book.new ≡ live_bodies book.old }
     ensures err { OnErr result (book.new ≡ book.old) }
 {
     let sent = send(alloc, book, engine, path, place, &body);

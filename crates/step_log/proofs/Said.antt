@@ -1,5 +1,5 @@
 -- What a sent body makes of what the records say.
-use Rattle.std.proofs.Common.{◌≡◌, ℕ, zero, suc, ◌-◌, List, [], ◌∷◌, ◌++◌, Option, Result, Ok, Err, IfOk, OnErr, IsTrue, refl, sym, ap, subst, ◌∙◌}
+use Rattle.std.proofs.Common.{◌≡◌, ℕ, zero, suc, ◌-◌, List, [], ◌∷◌, ◌++◌, map, Option, Result, Ok, Err, IfOk, OnErr, IsTrue, refl, sym, ap, subst, ◌∙◌}
 use Rattle.std.specs.List.{AllByRecursion, list_all}
 use Rattle.lb_base.specs.declared.value.Record.{Record}
 use Rattle.lb_base.specs.declared.value.Cond.{Cond}
@@ -7,6 +7,7 @@ use Rattle.lb_base.specs.declared.value.Tag.{Tag}
 use Rattle.boki_types.specs.declared.body.Body.{Body}
 use Rattle.boki_types.specs.declared.body.Body.TheVariants as b
 use Rattle.boki_types.specs.declared.log.Sent.{Sent}
+use Rattle.boki_model.specs.Live.{live}
 use Rattle.boki_model.specs.Bodies.{tags_of, in_range}
 use Rattle.boki_model.specs.Plans.{is_user_tag}
 use Rattle.boki_model.specs.OrderLaws.{add_to}
@@ -15,8 +16,8 @@ use Rattle.log_folds.specs.Decoded.{decoded_record}
 use Rattle.log_folds.proofs.MappedOrders.{ordered_alike}
 use Rattle.rec_codec.specs.Reading.{read}
 use Rattle.rec_codec.specs.Spelling.{spelled}
-use Rattle.book_api.specs.Books.{BookState, home_shard, appended, IsSent}
-use Rattle.step_log.specs.Sound.{body_or_end, body_of, bodies, IsSpelled, Sound, record_of, entry_with, IsBodySent, user_record, user_entry, IsUserSent}
+use Rattle.book_api.specs.Books.{BookState, ordered, home_shard, appended, IsSent}
+use Rattle.step_log.specs.Sound.{body_or_end, body_of, bodies, live_bodies, IsSpelled, Sound, record_of, entry_with, IsBodySent, user_record, user_entry, IsUserSent}
 
 -- a record is added to a shard whose records are all so
 all_push : {A : Type 0} (P : A → Type 0) (xs : List A) (y : A) → AllByRecursion P xs → P y → AllByRecursion P (xs ++ y ∷ [])
@@ -65,6 +66,16 @@ is_spelled condition body again range =
       tags = subst (λ x. OwnTags x (tags_of body)) (sym told) (own_tags body);
     }
 
+-- what is live hangs on the ordered list alone
+live_stay : (old new : BookState) → ordered new ≡ ordered old → live_bodies new ≡ live_bodies old
+live_stay old new same =
+    ap live
+    (
+    (ordered_alike (decoded_record body_of) new.shards).newest_first new.vectors
+    ∙ ap (map (decoded_record body_of)) same
+    ∙ sym ((ordered_alike (decoded_record body_of) old.shards).newest_first old.vectors)
+    )
+
 -- what the call answers, by what the book does
 pub is_said : {E : Type 0} (result : Result Sent E) (engine : ℕ) (condition : Option Cond) (body : Body) (old new : BookState) (r : Record) → r ≡ record_of condition body → read (spelled body) ≡ Ok body
     → IfOk result (IsSent engine r old new) → IfOk result (IsBodySent engine condition body old new)
@@ -76,6 +87,7 @@ is_said (Ok at) engine condition body old new r is again sent = record {
       ap bodies (sent.after ∙ ap (λ r. appended engine r old) is)
       ∙ sym ((ordered_alike (decoded_record body_of) old.shards).one_more (home_shard old engine - 1) (record_of condition body))
       ∙ ap (λ e. add_to (home_shard old engine - 1) e (bodies old)) (said_is body again condition);
+  live = live_stay old new sent.ordered;
 }
 
 pub stays_sound : {E : Type 0} (result : Result Sent E) (engine : ℕ) (condition : Option Cond) (body : Body) (old new : BookState) (r : Record) → r ≡ record_of condition body → read (spelled body) ≡ Ok body
@@ -118,6 +130,7 @@ module _ {E : Type 0} (engine : ℕ) (condition : Option Cond) (tags : List Tag)
         ap bodies (sent.after ∙ ap (λ r. appended engine r old) is)
         ∙ sym ((ordered_alike (decoded_record body_of) old.shards).one_more (home_shard old engine - 1) (user_record condition tags bytes))
         ∙ ap (λ e. add_to (home_shard old engine - 1) e (bodies old)) (user_said condition tags bytes again);
+    live = live_stay old new sent.ordered;
   }
 
   pub user_stays_sound : (result : Result Sent E) → IsTrue (in_range (b.User bytes)) → IsTrue (list_all is_user_tag tags) → IfOk result (IsSent engine r old new) → OnErr result (new ≡ old) → Sound old → Sound new

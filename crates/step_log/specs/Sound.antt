@@ -59,13 +59,14 @@ record_of condition body = record { tags = tags_of body; cond = condition; bytes
 abbrev pub entry_with : Option Cond → Body → LogRecord Body
 entry_with condition body = record { tags = tags_of body; condition = condition; holds = body }
 
--- a body was sent under a condition, and this is where it stands
+-- a body was sent under a condition, and this is where it stands; what is live is as before
 pub record IsBodySent (engine : ℕ) (condition : Option Cond) (body : Body) (old new : BookState) (sent : Sent) : Type 0 where
   pub location : sent ≡ next_sent old engine
   pub after : new ≡ appended engine (record_of condition body) old
   pub says : bodies new ≡ add_to (home_shard old engine - 1) (entry_with condition body) (bodies old)
+  pub live : live_bodies new ≡ live_bodies old
 
--- a user's bytes were sent with these tags under a condition, and this is where the record stands
+-- a user's bytes were sent with these tags under a condition, and this is where the record stands; what is live is as before
 abbrev pub user_record : Option Cond → List Tag → List ℕ → Record
 user_record condition tags bytes = record { tags = tags; cond = condition; bytes = spelled (b.User bytes) }
 
@@ -76,3 +77,4 @@ pub record IsUserSent (engine : ℕ) (condition : Option Cond) (tags : List Tag)
   pub location : sent ≡ next_sent old engine
   pub after : new ≡ appended engine (user_record condition tags bytes) old
   pub says : bodies new ≡ add_to (home_shard old engine - 1) (user_entry condition tags bytes) (bodies old)
+  pub live : live_bodies new ≡ live_bodies old

@@ -1,4 +1,4 @@
-//! Bodies are sent as records. A record that is sent is in no order yet, so what is live is as before; no clause says so.
+//! Bodies are sent as records. A record that is sent is in no order yet, so what is live is as before.
 ghost use Rattle.std.specs.Prelude.{◌≡◌, ◌≤◌, length, IsTrue, IfOk, OnOk, OnErr};
 ghost use Rattle.std.specs.List.{list_all};
 ghost use Rattle.boki_model.specs.Plans.{is_user_tag};
