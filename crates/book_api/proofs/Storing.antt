@@ -1,5 +1,5 @@
 -- What an append, a copy and a cut make of the shards and the metalog.
-use Rattle.std.proofs.Common.{◌≡◌, ℕ, zero, suc, ◌+◌, ◌-◌, ◌^◌, ◌<◌, ◌≤◌, Bool, true, false, cond, List, [], ◌∷◌, ◌++◌, length, map, sum, get_or, replicate, Result, Ok, Err, IfOk, OnErr, refl, sym, ap, subst, ◌∙◌, arith}
+use Rattle.std.proofs.Common.{◌≡◌, ℕ, zero, suc, ◌+◌, ◌-◌, ◌%◌, ◌^◌, ◌<◌, ◌≤◌, Bool, true, false, cond, List, [], ◌∷◌, ◌++◌, length, map, sum, get_or, replicate, Result, Ok, Err, IfOk, OnErr, refl, sym, ap, subst, ◌∙◌, arith}
 use Rattle.std.specs.List.{All}
 use Rattle.std.proofs.lemmas.List.{length-set, length-map, length_push, map-append, length-replicate}
 use Rattle.std.proofs.lemmas.List.Elements.{All-weaker, All-replicate, All-head, All-tail}
@@ -7,13 +7,14 @@ use Rattle.std.proofs.lemmas.List.Sums.{sum_by-cons}
 use Rattle.lru.specs.LruCache.{LruCache, lru_cache}
 use Rattle.lb_base.specs.declared.value.Record.{Record}
 use Rattle.boki_types.specs.declared.log.Cut.{Cut}
+use Rattle.boki_types.specs.declared.log.Sent.{Sent}
 use Rattle.boki_model.specs.Live.{entry_of}
 use Rattle.boki_model.specs.Order.{order, entry_records, other_counts, last_vector, progress}
 use Rattle.boki_model.specs.OrderLaws.{AreAtMost, ShardsHave, add_to}
 use Rattle.boki_model.specs.Entries.{same_counts, total}
 use Rattle.boki_model.proofs.Cuts.{length_total}
 use Rattle.boki_model.proofs.Orders.{have_more, order_stays}
-use Rattle.shard_store.specs.Kept.{ShardsState, empty_shards, appended, after_copy, HasShard}
+use Rattle.shard_store.specs.Kept.{ShardsState, empty_shards, records_of, appended, after_copy, HasShard}
 use Rattle.shard_store.proofs.Progress.{never_falls}
 use Rattle.meta_order.specs.MetalogState.{MetalogState, cut_of, after_cut}
 use Rattle.boki_machine.specs.Machine.{Aux}
@@ -94,16 +95,27 @@ stored_append shards metalog sent shard r h has room = record {
 }
 
 -- the ordered list stays
-pub kept_ordered : (shards new : ShardsState) (metalog : MetalogState) (indexes : List Index) (aux : List (LruCache ℕ (List ℕ))) (sent shard : ℕ) (r : Record) (b : books.BookState)
-    → AreStored shards metalog sent → book_state_of shards metalog indexes aux ≡ b → new ≡ appended shard r shards
-    → books.ordered (book_state_of new metalog indexes aux) ≡ books.ordered b
-kept_ordered shards new metalog indexes aux sent shard r b h view is =
-    ap (λ (s : ShardsState). order s.shards metalog.vectors) is
-    ∙ order_stays (shard - 1) r shards.shards metalog.vectors h.grow h.ordered.have
-    ∙ ap books.ordered view
-
 pub log_append : (shards : ShardsState) (metalog : MetalogState) (sent shard : ℕ) (r : Record) → AreStored shards metalog sent → log_in (appended shard r shards) metalog ≡ log_in shards metalog
 log_append shards metalog sent shard r h = ap (map entry_of) (order_stays (shard - 1) r shards.shards metalog.vectors h.grow h.ordered.have)
+
+-- where the record stands, and what the book then is
+pub is_sent : (shards new : ShardsState) (metalog : MetalogState) (indexes : List Index) (aux : List (LruCache ℕ (List ℕ))) (n sent engine shard local : ℕ) (r : Record) (b : books.BookState)
+    → AreStored shards metalog sent → book_state_of shards metalog indexes aux ≡ b → n ≡ length shards.shards → shard ≡ (engine - 1) % n + 1
+    → local ≡ suc (length (records_of shard shards)) → new ≡ appended shard r shards
+    → books.IsSent engine r b (book_state_of new metalog indexes aux) (record { shard = shard; local = local })
+is_sent shards new metalog indexes aux n sent engine shard local r b h view room home_is behind is =
+    let home : shard ≡ suc ((engine - 1) % length shards.shards) = (
+    home_is ∙ ap (λ n. (engine - 1) % n + 1) room ∙ (let e : (engine - 1) % length shards.shards + 1 ≡ suc ((engine - 1) % length shards.shards) = omega arith in e)
+    ) in
+    let at : ℕ → ℕ → Sent = λ shard local. record { shard = shard; local = local } in
+    subst (λ b. books.IsSent engine r b (book_state_of new metalog indexes aux) (at shard local)) view
+    record {
+      location =
+          ap (λ s. at s local) home
+          ∙ ap (at (suc ((engine - 1) % length shards.shards))) (behind ∙ ap (λ s. suc (length (records_of s shards))) home);
+      after = ap (λ s. book_state_of s metalog indexes aux) (is ∙ ap (λ s. appended s r shards) home);
+      ordered = ap (λ (s : ShardsState). order s.shards metalog.vectors) is ∙ order_stays (shard - 1) r shards.shards metalog.vectors h.grow h.ordered.have;
+    }
 
 pub sound_send : (shards new : ShardsState) (metalog : MetalogState) (indexes : List Index) (aux : List (LruCache ℕ (List ℕ))) (room : List ℕ) (sent shard : ℕ) (r : Record)
     → IsSound shards metalog indexes aux room sent → HasShard shard shards → sent < 2 ^ 63 → new ≡ appended shard r shards → IsSound new metalog indexes aux room (sent + 1)
