@@ -56,8 +56,9 @@ fn answer<R: Threads + Wait + Sync, S: Source, K: Sink>(
 ///
 /// They are read once, and the status and the text are those of their command's own call: of
 /// [`run_top`](small_run::run_top), [`judge_top`](judge_call::judge_top), [`check_top`](check_call::check_top),
-/// [`make_top`](check_call::make_top) or [`live_top`](live_call::live_top), for which it may wait. For every other word, and for a command or an option that isn't built yet, the usage line
-/// is written and the source is left alone. No command that is built takes nemeses, so all are dropped unused.
+/// [`make_top`](check_call::make_top) or [`live_top`](live_call::live_top), for which it may wait. For every other word, and for a
+/// command or an option that isn't built yet, the usage line is written and the source is left alone. No command that is built takes
+/// nemeses, so all are dropped unused.
 pub fn call<R: Threads + Wait + Sync, S: Source, K: Sink>(
     rt: &R,
     alloc: Global,
