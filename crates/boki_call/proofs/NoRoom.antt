@@ -9,6 +9,7 @@ use Rattle.call_base.specs.Due.{Meets, usage}
 use Rattle.call_base.proofs.DueLemmas.{no_room}
 use Rattle.check_call.specs.Plans.{check_due}
 use Rattle.judge_agrees.specs.Judged.{judge_due}
+use Rattle.live_call.proofs.DueLive.{none_read}
 use Rattle.small_run.proofs.EndedRuns.{ended_runs}
 use Rattle.boki_call.specs.Answers.{Answers}
 
@@ -33,7 +34,7 @@ no_answer (Some Judge) left old = (λ e. cc, judges left old)
 no_answer (Some Check) left old = (λ e. cc, checks left old)
 no_answer (Some (Make n true)) left old = (λ e. cc, AppendsPrefix-none old _)
 no_answer (Some (Make n false)) left old = none old
-no_answer (Some Live) left old = none old
+no_answer (Some Live) left old = (λ e. cc, none_read left old)
 no_answer (Some Flow) left old = none old
 no_answer (Some Log) left old = none old
 no_answer (Some Audit) left old = none old

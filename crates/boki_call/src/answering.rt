@@ -11,12 +11,16 @@ use check_call::{check_source, write_transfers};
 use command_line::{Request, request_of};
 use judge_call::judge_source;
 use lb_base::{Sink, Source};
+use live_call::live_source;
 use nemesis::Nemesis;
 use small_run::run_source;
 use std::alloc::Global;
+use std::sync::Wait;
+use std::thread::Threads;
 
 /// What a request asks for.
-fn answer<S: Source, K: Sink>(
+fn answer<R: Threads + Wait + Sync, S: Source, K: Sink>(
+    rt: &R,
     alloc: Global,
     request: Request,
     source: &mut S,
@@ -38,6 +42,7 @@ fn answer<S: Source, K: Sink>(
         } => run_source(alloc, source, sink),
         Request::Judge => judge_source(alloc, source, sink),
         Request::Check => check_source(alloc, source, sink),
+        Request::Live => live_source(rt, alloc, source, sink),
         Request::Make {
             transfers,
             plan: true,
@@ -50,11 +55,12 @@ fn answer<S: Source, K: Sink>(
 /// Answers the words of the program, which stand without its name.
 ///
 /// They are read once, and the status and the text are those of their command's own call: of
-/// [`run_top`](small_run::run_top), [`judge_top`](judge_call::judge_top), [`check_top`](check_call::check_top) or
-/// [`make_top`](check_call::make_top). For every other word, and for a command or an option that isn't built yet, the usage line
-/// is written and the source is left alone. No command that is built takes nemeses, so all are dropped unused.
-pub fn call<R, S: Source, K: Sink>(
-    _rt: &R,
+/// [`run_top`](small_run::run_top), [`judge_top`](judge_call::judge_top), [`check_top`](check_call::check_top),
+/// [`make_top`](check_call::make_top) or [`live_top`](live_call::live_top), for which it may wait. For every other word, and for a
+/// command or an option that isn't built yet, the usage line is written and the source is left alone. No command that is built takes
+/// nemeses, so all are dropped unused.
+pub fn call<R: Threads + Wait + Sync, S: Source, K: Sink>(
+    rt: &R,
     alloc: Global,
     words: &[String],
     source: &mut S,
@@ -80,7 +86,7 @@ pub fn call<R, S: Source, K: Sink>(
         return Status::Memory;
     };
     match request {
-        Some(request) => answer(alloc, request, source, sink),
+        Some(request) => answer(rt, alloc, request, source, sink),
         None => write_usage(sink),
     }
 }

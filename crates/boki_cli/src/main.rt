@@ -8,6 +8,8 @@ use nemesis::{Doubler, Killer, Loser};
 use std::env;
 use std::io::BufWriter;
 use std::process::ExitCode;
+use std::sync::Wait;
+use std::thread::Threads;
 
 /// The words of the command line, without the program's name.
 fn words_of(rt: &HostRuntime) -> Result<Vec<String>, Memory> {
@@ -21,8 +23,8 @@ fn words_of(rt: &HostRuntime) -> Result<Vec<String>, Memory> {
     Ok(words)
 }
 
-/// Answers the words over the standard devices, and hands in a killer, a doubler and a loser.
-fn answer(rt: &HostRuntime) -> Result<Status, Memory> {
+/// Answers the words over the standard devices, and hands in a killer, a doubler and a loser. `threads` may start threads and wait.
+fn answer<R: Threads + Wait + Sync>(rt: &HostRuntime, threads: &R) -> Result<Status, Memory> {
     let alloc = rt.alloc();
     let mut nemeses: Vec<Box<dyn Nemesis + Send>> = Vec::new(alloc);
     nemeses.push(Box::new(alloc, Killer::new())?)?;
@@ -34,7 +36,14 @@ fn answer(rt: &HostRuntime) -> Result<Status, Memory> {
     };
     let mut source = StdSource::new(rt.stdin());
     let mut sink = StdSink::new(out);
-    let status = call(rt, alloc, words.as_slice(), &mut source, &mut sink, nemeses);
+    let status = call(
+        threads,
+        alloc,
+        words.as_slice(),
+        &mut source,
+        &mut sink,
+        nemeses,
+    );
     // What the buffer kept is written now, and where that fails the text isn't whole.
     if sink.flush() {
         Ok(status)
@@ -44,7 +53,7 @@ fn answer(rt: &HostRuntime) -> Result<Status, Memory> {
 }
 
 fn main(rt: HostRuntime) -> ExitCode {
-    let status = match answer(&rt) {
+    let status = match answer(&rt, &rt) {
         Ok(status) => status,
         Err(_) => Status::Memory,
     };

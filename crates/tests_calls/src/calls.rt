@@ -6,7 +6,9 @@ use boki_call::{Status, call};
 use boki_types::Kind;
 use lb_base::{MemSink, MemSource, Sink, Source, SureSink, SureSource};
 use std::alloc::{AllocError, Global};
+use std::sync::Wait;
 use std::test::Fail;
+use std::thread::Threads;
 
 /// The smallest use: one invocation with a write and a read.
 const FIRST: &str = r#"setup 1 1 1 R
@@ -160,26 +162,33 @@ fn words_of(alloc: Global, texts: &[&str]) -> Result<Vec<String>, AllocError> {
 }
 
 /// The call with no nemeses.
-fn called<S: Source, K: Sink>(
+fn called<R: Threads + Wait + Sync, S: Source, K: Sink>(
+    rt: &R,
     alloc: Global,
     words: &[String],
     source: &mut S,
     sink: &mut K,
 ) -> Status {
-    call(&(), alloc, words, source, sink, Vec::new(alloc))
+    call(rt, alloc, words, source, sink, Vec::new(alloc))
 }
 
 /// Calls over devices that never fail.
-fn answer(alloc: Global, texts: &[&str], text: &[u8]) -> Result<(Status, SureSink), AllocError> {
+fn answer<R: Threads + Wait + Sync>(
+    rt: &R,
+    alloc: Global,
+    texts: &[&str],
+    text: &[u8],
+) -> Result<(Status, SureSink), AllocError> {
     let words = words_of(alloc, texts)?;
     let mut source = SureSource::new(Vec::from_slice(alloc, text)?);
     let mut sink = SureSink::new(alloc);
-    let status = called(alloc, words.as_slice(), &mut source, &mut sink);
+    let status = called(rt, alloc, words.as_slice(), &mut source, &mut sink);
     Ok((status, sink))
 }
 
 /// Runs the first plan over a source whose calls `take` fail, and a sink that takes `most` bytes a call and whose calls `put` fail.
-fn run_first(
+fn run_first<R: Threads + Wait + Sync>(
+    rt: &R,
     alloc: Global,
     most: usize,
     take: u64,
@@ -191,7 +200,7 @@ fn run_first(
     let text = Vec::from_slice(alloc, FIRST.as_bytes())?;
     let mut source = MemSource::new(text, vec![in alloc; take]?);
     let mut sink = MemSink::new(alloc, most, vec![in alloc; put]?);
-    let status = called(alloc, words.as_slice(), &mut source, &mut sink);
+    let status = called(rt, alloc, words.as_slice(), &mut source, &mut sink);
     Ok((status, sink))
 }
 
@@ -204,7 +213,7 @@ fn worked_plans_give_their_lines(rt: HostRuntime) -> Result<(), Fail> {
         ("setup 1 1 1 R\nevents\n", "report\nend\n"),
     ];
     for (text, lines) in plans {
-        let (status, sink) = answer(rt.alloc(), &["run"], text.as_bytes())?;
+        let (status, sink) = answer(&rt, rt.alloc(), &["run"], text.as_bytes())?;
         assert_eq!(rt; status, Status::Done);
         assert_eq!(rt; sink.bytes(), lines.as_bytes());
     }
@@ -220,7 +229,7 @@ fn plans_are_printed_in_their_canonical_text(rt: HostRuntime) -> Result<(), Fail
         (&["make", "--plan", "1"], LOOSE, ONE_TRANSFER),
     ];
     for (texts, text, printed) in calls {
-        let (status, sink) = answer(rt.alloc(), texts, text.as_bytes())?;
+        let (status, sink) = answer(&rt, rt.alloc(), texts, text.as_bytes())?;
         assert_eq!(rt; status, Status::Done);
         assert_eq!(rt; sink.bytes(), printed.as_bytes());
     }
@@ -228,9 +237,19 @@ fn plans_are_printed_in_their_canonical_text(rt: HostRuntime) -> Result<(), Fail
 }
 
 #[test]
+fn live_texts_are_run(rt: HostRuntime) -> Result<(), Fail> {
+    let text = "live 1\n1 append 7 \"a\"\n1 count 7\n";
+    let (status, sink) = answer(&rt, rt.alloc(), &["live"], text.as_bytes())?;
+    assert_eq!(rt; status, Status::Done);
+    let output = "list\n1 1 7 \"a\"\nworker 1\nappend 1\ncount 1 at 1\nend\n";
+    assert_eq!(rt; sink.bytes(), output.as_bytes());
+    Ok(())
+}
+
+#[test]
 fn turns_are_judged(rt: HostRuntime) -> Result<(), Fail> {
     let text = "setup 1 1 1 R\nobject \"x\" 1\nturns\n";
-    let (status, sink) = answer(rt.alloc(), &["judge"], text.as_bytes())?;
+    let (status, sink) = answer(&rt, rt.alloc(), &["judge"], text.as_bytes())?;
     assert_eq!(rt; status, Status::Done);
     assert_eq!(rt; sink.bytes(), b"report\nobject \"x\" 1\nend\n".as_slice());
     Ok(())
@@ -239,7 +258,7 @@ fn turns_are_judged(rt: HostRuntime) -> Result<(), Fail> {
 #[test]
 fn other_words_give_the_usage_line(rt: HostRuntime) -> Result<(), Fail> {
     // Behind the words that are no command's stand the commands and options that aren't built yet.
-    let words: [&[&str]; 15] = [
+    let words: [&[&str]; 14] = [
         &[],
         &[""],
         &["run", "--with", "0"],
@@ -251,13 +270,12 @@ fn other_words_give_the_usage_line(rt: HostRuntime) -> Result<(), Fail> {
         &["run", "--json"],
         &["run", "--with", "all"],
         &["make", "5"],
-        &["live"],
         &["flow"],
         &["log"],
         &["mux"],
     ];
     for texts in words {
-        let (status, sink) = answer(rt.alloc(), texts, FIRST.as_bytes())?;
+        let (status, sink) = answer(&rt, rt.alloc(), texts, FIRST.as_bytes())?;
         assert_eq!(rt; status, Status::Usage);
         assert_eq!(rt; sink.bytes(), USAGE.as_bytes());
     }
@@ -277,9 +295,14 @@ fn without_argument(alloc: Global) -> Result<String, AllocError> {
 }
 
 /// Whether `run` and `check` both refuse the text with this line.
-fn is_refused(alloc: Global, text: &[u8], line: &str) -> Result<bool, AllocError> {
+fn is_refused<R: Threads + Wait + Sync>(
+    rt: &R,
+    alloc: Global,
+    text: &[u8],
+    line: &str,
+) -> Result<bool, AllocError> {
     for word in ["run", "check"] {
-        let (status, sink) = answer(alloc, &[word], text)?;
+        let (status, sink) = answer(rt, alloc, &[word], text)?;
         if status.code() != 1 || sink.bytes() != line.as_bytes() {
             return Ok(false);
         }
@@ -320,10 +343,10 @@ fn bad_texts_are_refused_by_line_and_kind(rt: HostRuntime) -> Result<(), Fail> {
         ),
     ];
     for (text, line) in texts {
-        assert!(rt; is_refused(rt.alloc(), text, line)?, "not {line}");
+        assert!(rt; is_refused(&rt, rt.alloc(), text, line)?, "not {line}");
     }
     let text = without_argument(rt.alloc())?;
-    assert!(rt; is_refused(rt.alloc(), text.as_bytes(), "refused 8 arity\n")?);
+    assert!(rt; is_refused(&rt, rt.alloc(), text.as_bytes(), "refused 8 arity\n")?);
     Ok(())
 }
 
@@ -332,7 +355,7 @@ fn a_text_past_the_limit_is_refused_as_a_whole(rt: HostRuntime) -> Result<(), Fa
     let alloc = rt.alloc();
     let text = vec![in alloc; b'#'; 1_048_577]?;
     for word in ["run", "check"] {
-        let (status, sink) = answer(alloc, &[word], &text)?;
+        let (status, sink) = answer(&rt, alloc, &[word], &text)?;
         let kind = Kind::Length;
         assert_eq!(rt; status, Status::Refused { line: 0, kind });
         assert_eq!(rt; sink.bytes(), b"refused 0 length\n".as_slice());
@@ -352,7 +375,7 @@ fn plans_outside_the_small_form_are_not_built(rt: HostRuntime) -> Result<(), Fai
         "setup 1 1 1 R\nevents\nrepeat 1\nstart 1 1 1\nend\n",
     ];
     for text in texts {
-        let (status, sink) = answer(rt.alloc(), &["run"], text.as_bytes())?;
+        let (status, sink) = answer(&rt, rt.alloc(), &["run"], text.as_bytes())?;
         let kind = Kind::NotBuilt;
         assert_eq!(rt; status, Status::Refused { line: 0, kind });
         assert_eq!(rt; sink.bytes(), b"refused 0 notbuilt\n".as_slice());
@@ -362,7 +385,7 @@ fn plans_outside_the_small_form_are_not_built(rt: HostRuntime) -> Result<(), Fai
 
 #[test]
 fn a_sink_that_takes_5_bytes_a_call_gets_all(rt: HostRuntime) -> Result<(), Fail> {
-    let (status, sink) = run_first(rt.alloc(), 5, 0, 0)?;
+    let (status, sink) = run_first(&rt, rt.alloc(), 5, 0, 0)?;
     assert_eq!(rt; status, Status::Done);
     assert_eq!(rt; sink.bytes(), FIRST_LINES.as_bytes());
     Ok(())
@@ -375,26 +398,30 @@ fn a_failing_put_leaves_the_lines_before(rt: HostRuntime) -> Result<(), Fail> {
     let mut before = 0usize;
     for line in FIRST_LINES.split_inclusive('\n') {
         lines = lines.saturating_add(1);
-        let (status, sink) = run_first(rt.alloc(), 4096, 0, lines)?;
+        let (status, sink) = run_first(&rt, rt.alloc(), 4096, 0, lines)?;
         assert_eq!(rt; status, Status::WriteFault);
         assert!(rt; FIRST_LINES.as_bytes().starts_with(sink.bytes()));
         assert_eq!(rt; sink.bytes().len(), before);
         before = before.saturating_add(line.len());
     }
     assert_eq!(rt; lines, 22);
-    let (status, _) = run_first(rt.alloc(), 4096, 0, 23)?;
+    let (status, _) = run_first(&rt, rt.alloc(), 4096, 0, 23)?;
     assert_eq!(rt; status, Status::Done);
-    let (_, sink) = run_first(rt.alloc(), 5, 0, 3)?;
+    let (_, sink) = run_first(&rt, rt.alloc(), 5, 0, 3)?;
     assert_eq!(rt; sink.bytes(), b"1 sent 1.1".as_slice());
     Ok(())
 }
 
 /// The words `check` over the loose plan, and a sink whose call `put` fails.
-fn check_loose(alloc: Global, put: u64) -> Result<(Status, MemSink), AllocError> {
+fn check_loose<R: Threads + Wait + Sync>(
+    rt: &R,
+    alloc: Global,
+    put: u64,
+) -> Result<(Status, MemSink), AllocError> {
     let words = words_of(alloc, &["check"])?;
     let mut source = SureSource::new(Vec::from_slice(alloc, LOOSE.as_bytes())?);
     let mut sink = MemSink::new(alloc, 4096, vec![in alloc; put]?);
-    let status = called(alloc, words.as_slice(), &mut source, &mut sink);
+    let status = called(rt, alloc, words.as_slice(), &mut source, &mut sink);
     Ok((status, sink))
 }
 
@@ -404,12 +431,12 @@ fn a_plan_is_written_line_by_line(rt: HostRuntime) -> Result<(), Fail> {
     let mut before = 0usize;
     for line in CANONICAL.split_inclusive('\n') {
         lines = lines.saturating_add(1);
-        let (status, sink) = check_loose(rt.alloc(), lines)?;
+        let (status, sink) = check_loose(&rt, rt.alloc(), lines)?;
         assert_eq!(rt; status, Status::WriteFault);
         assert_eq!(rt; sink.bytes().len(), before);
         before = before.saturating_add(line.len());
     }
-    let (status, sink) = check_loose(rt.alloc(), 0)?;
+    let (status, sink) = check_loose(&rt, rt.alloc(), 0)?;
     assert_eq!(rt; status, Status::Done);
     assert_eq!(rt; sink.bytes(), CANONICAL.as_bytes());
     Ok(())
@@ -419,11 +446,11 @@ fn a_plan_is_written_line_by_line(rt: HostRuntime) -> Result<(), Fail> {
 fn a_failing_take_leaves_nothing(rt: HostRuntime) -> Result<(), Fail> {
     // The text comes at the first call, its end at the second.
     for k in [1, 2] {
-        let (status, sink) = run_first(rt.alloc(), 4096, k, 0)?;
+        let (status, sink) = run_first(&rt, rt.alloc(), 4096, k, 0)?;
         assert_eq!(rt; status, Status::ReadFault);
         assert!(rt; sink.bytes().is_empty());
     }
-    let (status, _) = run_first(rt.alloc(), 4096, 3, 0)?;
+    let (status, _) = run_first(&rt, rt.alloc(), 4096, 3, 0)?;
     assert_eq!(rt; status, Status::Done);
     Ok(())
 }
