@@ -1,0 +1,2 @@
+use Rattle.boki_flow.proofs.Misses.{miss_cut_before}
+use Rattle.boki_flow.proofs.missing.miss_asked.Goals as goal
