@@ -64,7 +64,10 @@ pub(crate) fn step_script(
                 store_value(&mut parts.store, state, key, value)
             }
         }
-        Ask::Op(Op::Join { ordinal }) => step_join(alloc, program, parts, state, *ordinal),
+        Ask::Op(Op::Join { ordinal }) => {
+            let ordinal = *ordinal;
+            step_join(alloc, program, parts, state, ordinal)
+        }
         _ => send_next(alloc, program, parts, state, false),
     }
 }
