@@ -29,7 +29,8 @@ use Rattle.attempt_log.proofs.Moves.{inits_are_moves}
 use Rattle.flow_parts.specs.declared.parts.Parts.{Parts}
 use Rattle.flow_parts.specs.Parts.{PartsStandFor, KeepsParts}
 use Rattle.boki_flow.specs.Flow.{FlowStandsFor, IsMoved}
-use Rattle.boki_flow.specs.Arms.{IsCalled, CutShortBy, init_move, adopts_init}
+use Rattle.boki_flow.specs.Arms.{IsCalled, IsCalledBy, CutShortBy, init_move, adopts_init}
+use Rattle.boki_flow.proofs.Leading.{Leads}
 use Rattle.boki_flow.proofs.Moves.{sent_moves}
 
 module _ (setup : Setup) (fs : List Function) (store : Store) (a : Attempt) (parts : Parts) (kept : AttemptState) (stands : FlowStandsFor setup fs store a parts kept) (call : Call) (called : IsCalled parts call a) where
@@ -82,3 +83,24 @@ found_none (Some x) e = absurd (let no_way : None ≡ Some x.seq = e in cc)
 -- a call that changed what an engine keeps alone leaves parts that stand
 pub keeps_cut : (P : Setup → Store → Attempt → Type 0) (move : Setup → Store → Attempt → Move) (fs : List Function) (old new : Parts) (kept : AttemptState) → KeepsParts old new → CutShortBy P move fs old new kept
 keeps_cut P move fs old new kept keeps setup store a stands holds = record { book = keeps.book; parts = inl (keeps.stands setup store stands.parts) }
+
+-- what its engine finds at place 0, by what is kept of it
+module _ (fs : List Function) (parts : Parts) (kept : AttemptState) where
+  abbrev first_there : Option ℕ
+  first_there = option_map (λ (x : Live Body). x.seq) (nth (step_tag kept.progress.path) 0 (view parts.book kept.progress.engine))
+
+  first_same : (a : Attempt) → AttemptStandsFor fs a kept → first_there ≡ option_map (λ (x : Live Body). x.seq) (nth (step_tag a.path) 0 (view parts.book a.engine))
+  first_same a stands = ap (λ (p : Progress). option_map (λ (x : Live Body). x.seq) (nth (step_tag p.path) 0 (view parts.book p.engine))) stands.progress
+
+  pub none_there : (a : Attempt) → AttemptStandsFor fs a kept → None ≡ first_there → nth (step_tag a.path) 0 (view parts.book a.engine) ≡ None
+  none_there a stands none = found_none (nth (step_tag a.path) 0 (view parts.book a.engine)) (none ∙ first_same a stands)
+
+  pub leads_init : (call : Call) (seq : ℕ) → Some seq ≡ first_there
+      → Leads (IsCalledBy parts call) (IsCalledBy parts call) (init_move fs parts call) (adopts_init fs parts call seq) fs parts kept
+  leads_init call seq some = record {
+    needs = λ setup store a stands called. called;
+    same = λ setup store a stands called.
+        let there = found_at seq (nth (step_tag a.path) 0 (view parts.book a.engine)) (some ∙ first_same a stands.attempt) in
+        sym (ap (λ (o : Option (Live Body)). init_step setup fs a store (view parts.book a.engine) (next_sent parts.book a.engine) call o) there.1.0
+        ∙ ap (λ (n : ℕ). adopts_init fs parts call n setup store a) there.1.1);
+  }

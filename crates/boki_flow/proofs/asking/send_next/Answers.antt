@@ -13,3 +13,9 @@ send_asked-requires-clause-engine c = let r = c.requires in has_engine r.setup c
 
 pub send_asked-requires-clause-room : goal.send_asked-requires-clause-room
 send_asked-requires-clause-room c = let r = c.requires in room r.setup c.args.program.now.functions r.store r.attempt c.args.parts.now c.args.state.now r.stands
+
+pub send_asked-requires-clause-range : goal.send_asked-requires-clause-range
+send_asked-requires-clause-range c = ?
+
+pub returns-clause-ok : goal.returns-clause-ok
+returns-clause-ok c = ?

@@ -1,2 +1,39 @@
-use Rattle.boki_flow.proofs.Misses.{miss_cut_before}
+use Rattle.std.proofs.Common.{◌≡◌, ◌∙◌, sym, ap}
+use Rattle.boki_types.specs.declared.operation.Ask.TheVariants as k
+use Rattle.boki_types.specs.declared.operation.Op.TheVariants as o
+use Rattle.boki_model.specs.Writes.{put_at}
+use Rattle.boki_machine.specs.Step.{misses_write, misses_put}
+use Rattle.boki_flow.specs.Arms.{ScriptAsks}
+use Rattle.boki_flow.proofs.Leading.{leads_misses, leads_miss_cut}
+use Rattle.boki_flow.proofs.Misses.{misses_frees, misses_there, misses_gone, misses_stores, put_missed, write_missed, miss_cut_before}
 use Rattle.boki_flow.proofs.missing.miss_write.Goals as goal
+
+pub returns-in_err-store_write-clause-cut : goal.returns-in_err-store_write-clause-cut
+returns-in_err-store_write-clause-cut c = ?
+
+pub returns-then-writes_freely-clause-ok : goal.returns-then-writes_freely-clause-ok
+returns-then-writes_freely-clause-ok c =
+    let old = c.args.parts.now in
+    let kept = c.args.state.now in
+    let key = c.args.key.now in
+    let v = c.args.value.now in
+    leads_misses (λ fs. ScriptAsks fs (k.Op (o.Write key v))) (λ fs. ScriptAsks fs (k.Op (o.Write key v))) (write_missed old kept key v) (put_missed old kept key v) old c.miss_put.new.parts kept
+    (misses_frees old kept key v (sym c.writes_freely.ensures ∙ c.if-writes_freely.true)) c.miss_put.result c.miss_put.ensures.ok
+
+pub returns-then-writes_freely-clause-cut : goal.returns-then-writes_freely-clause-cut
+returns-then-writes_freely-clause-cut c =
+    let old = c.args.parts.now in
+    let kept = c.args.state.now in
+    let key = c.args.key.now in
+    let v = c.args.value.now in
+    leads_miss_cut (λ fs. ScriptAsks fs (k.Op (o.Write key v))) (λ fs. ScriptAsks fs (k.Op (o.Write key v))) (write_missed old kept key v) (put_missed old kept key v) old c.miss_put.new.parts kept
+    (misses_frees old kept key v (sym c.writes_freely.ensures ∙ c.if-writes_freely.true)) c.miss_put.result c.miss_put.ensures.cut
+
+pub returns-then-is_inline-clause-ok : goal.returns-then-is_inline-clause-ok
+returns-then-is_inline-clause-ok c = ?
+
+pub returns-in-Done-clause-ok : goal.returns-in-Done-clause-ok
+returns-in-Done-clause-ok c = ?
+
+pub returns-in-Gone-clause-ok : goal.returns-in-Gone-clause-ok
+returns-in-Gone-clause-ok c = ?
