@@ -8,3 +8,5 @@ pub mod Adopted
 pub mod CacheFolds
 pub mod Beginning
 pub mod SentAsks
+pub mod SentJoins
+pub mod ScriptCases

@@ -302,10 +302,10 @@ module _ (parts : Parts) (kept : AttemptState) (key : List ℕ) (v : Value) wher
   mode_is : (fs : List Function) (a : Attempt) (free : Bool) → AttemptStandsFor fs a kept → writes_freely kept.progress.mode kept.progress.late ≡ free → writes_freely a.mode a.late ≡ free
   mode_is fs a free stands is = sym (ap (λ (p : Progress). writes_freely p.mode p.late) stands.progress) ∙ is
 
-  abbrev write_missed : List Function → Setup → Store → Attempt → Missed
+  abbrev pub write_missed : List Function → Setup → Store → Attempt → Missed
   write_missed fs setup store a = misses_write setup a store key v a.mode a.late
 
-  abbrev put_missed : List Function → Setup → Store → Attempt → Missed
+  abbrev pub put_missed : List Function → Setup → Store → Attempt → Missed
   put_missed fs setup store a = misses_put (put_at key a.cursor (suc a.free_writes) store) a store key v
 
   -- what is asked is this write, or it is none

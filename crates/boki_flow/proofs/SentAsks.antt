@@ -28,6 +28,7 @@ use Rattle.flow_parts.specs.declared.parts.Parts.{Parts}
 use Rattle.boki_flow.specs.Flow.{FlowStandsFor, IsMoved}
 use Rattle.boki_flow.specs.Arms.{asked_in, here_in, send_move}
 use Rattle.boki_flow.proofs.Moves.{sent_moves}
+use Rattle.boki_flow.proofs.Standing.{asking}
 
 begin_is : (open_at : Option ℕ) → begin_of (option_map seqnum open_at) ≡ unwrap_or open_at 0
 begin_is None = refl
@@ -51,6 +52,13 @@ module _ (setup : Setup) (fs : List Function) (store : Store) (a : Attempt) (par
 
   pub has_path : AskHasPath kept.progress.path ask
   has_path = subst (λ (p : Progress). AskHasPath p.path ask) (sym stands.attempt.progress) (child_path ask asks)
+
+  -- the frame asks it
+  pub asked_is_in : HasScript a → asked_in kept.frame ≡ ask
+  asked_is_in script =
+      let there = asking setup fs store a parts kept stands script in
+      let same : there.frame.ask ≡ ask = (let e = sym there.asks ∙ asks in cc) in
+      ap asked_in there.is ∙ same
 
   -- it was sent
   pub ask_sent :

@@ -22,16 +22,16 @@ begin-requires-clause-fits c = c.requires.stands.can.sees.calls c.args.call.now 
 
 pub returns-in_err-mode-clause-cut : goal.returns-in_err-mode-clause-cut
 returns-in_err-mode-clause-cut c = on_err c.from_residual.result
-    (keeps_cut (IsCalledBy c.args.parts.now c.args.call.now) (adopts_init c.args.program.now.functions c.args.parts.now c.args.call.now c.args.seq.0) c.args.program.now.functions c.args.parts.now c.mode_at-mode.new.parts c.args.state.now c.mode_at-mode.ensures.parts)
+    (keeps_cut (IsCalledBy c.args.parts.now c.args.call.now) (adopts_init c.args.program.now.functions c.args.parts.now c.args.call.now c.args.seq.0) c.args.program.now.functions c.args.parts.now c.mode_at.new.parts c.args.state.now c.mode_at.ensures.parts)
 
 pub returns-in_err-begin-clause-cut : goal.returns-in_err-begin-clause-cut
-returns-in_err-begin-clause-cut c = on_err c.from_residual.result
-    (keeps_cut (IsCalledBy c.args.parts.now c.args.call.now) (adopts_init c.args.program.now.functions c.args.parts.now c.args.call.now c.args.seq.0) c.args.program.now.functions c.args.parts.now c.mode_at-mode.new.parts c.args.state.now c.mode_at-mode.ensures.parts)
+returns-in_err-begin-clause-cut c = on_err c.from_residual-in_err-begin.result
+    (keeps_cut (IsCalledBy c.args.parts.now c.args.call.now) (adopts_init c.args.program.now.functions c.args.parts.now c.args.call.now c.args.seq.0) c.args.program.now.functions c.args.parts.now c.mode_at.new.parts c.args.state.now c.mode_at.ensures.parts)
 
 pub returns-clause-ok : goal.returns-clause-ok
 returns-clause-ok c = λ setup store a stands called.
     let mode = c.in_ok-mode.ensures.mode setup store stands.parts in
     let engine_is : c.args.state.now.progress.engine ≡ a.engine = ap (λ (p : Progress). p.engine) stands.attempt.progress in
-    init_adopted setup c.args.program.now.functions store a c.args.parts.now c.args.state.now stands c.args.call.now called c.mode_at-mode.new.parts c.begin.new.self c.args.seq.0 c.in_ok-mode.mode _
-    c.mode_at-mode.ensures.parts (mode ∙ ap (λ (engine : ℕ). mode_after setup.mode (records_below c.args.seq.0 (view c.args.parts.now.book engine))) engine_is) refl
+    init_adopted setup c.args.program.now.functions store a c.args.parts.now c.args.state.now stands c.args.call.now called c.mode_at.new.parts c.begin.new.self c.args.seq.0 c.in_ok-mode.mode _
+    c.mode_at.ensures.parts (mode ∙ ap (λ (engine : ℕ). mode_after setup.mode (records_below c.args.seq.0 (view c.args.parts.now.book engine))) engine_is) refl
     (c.in_ok-begin.ensures.ok a stands.attempt (begins setup c.args.program.now.functions store a c.args.parts.now c.args.state.now stands c.args.call.now called))

@@ -13,7 +13,7 @@ returns-in-Some-clause-ok c =
     let old = c.args.parts.now in
     let call = c.args.call.now in
     leads_moves (IsCalledBy old call) (IsCalledBy old call) fs old c.adopt_init.new.parts (init_move fs old call) (adopts_init fs old call c.in-Some.seq.0) c.args.state.now c.adopt_init.new.state
-    (leads_init fs old c.args.state.now call c.in-Some.seq.0 (ap (option_map (λ (s : Seqnum). s.0)) (sym c.in-Some.is) ∙ c.in_ok-init_at.ensures)) c.adopt_init.result c.adopt_init.ensures.ok
+    (leads_init fs old c.args.state.now call c.in-Some.seq.0 (ap (option_map (λ (s : Seqnum). s.0)) (sym c.in-Some.is) ∙ c.in_ok-seq.ensures)) c.adopt_init.result c.adopt_init.ensures.ok
 
 pub returns-in-Some-clause-cut : goal.returns-in-Some-clause-cut
 returns-in-Some-clause-cut c =
@@ -21,7 +21,7 @@ returns-in-Some-clause-cut c =
     let old = c.args.parts.now in
     let call = c.args.call.now in
     leads_cut (IsCalledBy old call) (IsCalledBy old call) fs old c.adopt_init.new.parts (init_move fs old call) (adopts_init fs old call c.in-Some.seq.0) c.args.state.now c.adopt_init.new.state
-    (leads_init fs old c.args.state.now call c.in-Some.seq.0 (ap (option_map (λ (s : Seqnum). s.0)) (sym c.in-Some.is) ∙ c.in_ok-init_at.ensures)) c.adopt_init.result c.adopt_init.ensures.cut
+    (leads_init fs old c.args.state.now call c.in-Some.seq.0 (ap (option_map (λ (s : Seqnum). s.0)) (sym c.in-Some.is) ∙ c.in_ok-seq.ensures)) c.adopt_init.result c.adopt_init.ensures.cut
 
 pub returns-then-state-clause-ok : goal.returns-then-state-clause-ok
 returns-then-state-clause-ok c = λ setup store a stands called.
@@ -29,7 +29,7 @@ returns-then-state-clause-ok c = λ setup store a stands called.
     let old = c.args.parts.now in
     let kept = c.args.state.now in
     init_waits setup fs store a old kept stands c.args.call.now called _
-    (none_there fs old kept a stands.attempt (ap (option_map (λ (s : Seqnum). s.0)) (sym c.in-None.is) ∙ c.in_ok-init_at.ensures))
+    (none_there fs old kept a stands.attempt (ap (option_map (λ (s : Seqnum). s.0)) (sym c.in-None.is) ∙ c.in_ok-seq.ensures))
     (sym (ap (λ (p : Progress). p.waiting) stands.attempt.progress) ∙ c.if-state.true) refl
 
 pub returns-else-state-clause-ok : goal.returns-else-state-clause-ok
@@ -38,5 +38,5 @@ returns-else-state-clause-ok c = weaker_ok c.send_init.result _ _ c.send_init.en
     let old = c.args.parts.now in
     let kept = c.args.state.now in
     init_sent setup fs store a old kept stands c.args.call.now called c.send_init.new.book c.send_init.new.at told
-    (none_there fs old kept a stands.attempt (ap (option_map (λ (s : Seqnum). s.0)) (sym c.in-None.is) ∙ c.in_ok-init_at.ensures))
+    (none_there fs old kept a stands.attempt (ap (option_map (λ (s : Seqnum). s.0)) (sym c.in-None.is) ∙ c.in_ok-seq.ensures))
     (sym (ap (λ (p : Progress). p.waiting) stands.attempt.progress) ∙ c.if-state.false) (c.send_init.ensures.sound stands.parts.kept.sound) is)

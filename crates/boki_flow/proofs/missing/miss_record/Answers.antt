@@ -15,22 +15,22 @@ pub miss_body-missed-requires : goal.miss_body-missed-requires
 miss_body-missed-requires c =
     let old = c.args.parts.now in
     can_miss_if (λ fs. FindsAnswer fs old) (λ fs. SeesSeqnum old c.in-Some.seq.0) old c.args.state.now
-    (λ fs. (misses_found old c.args.state.now c.in-Some.seq c.in-Some.body (sym c.in-Some.is ∙ c.in_ok-at.ensures) fs).needs) c.requires
+    (λ fs. (misses_found old c.args.state.now c.in-Some.seq c.in-Some.body (sym c.in-Some.is ∙ c.in_ok-seq.ensures) fs).needs) c.requires
 
 pub returns-in-Some-clause-ok : goal.returns-in-Some-clause-ok
 returns-in-Some-clause-ok c =
     let old = c.args.parts.now in
     leads_misses (λ fs. FindsAnswer fs old) (λ fs. SeesSeqnum old c.in-Some.seq.0) (λ fs. next_missed fs old) (λ fs setup store a. misses_record store c.in-Some.seq.0 c.in-Some.body)
     old c.miss_body-missed.new.parts c.args.state.now
-    (misses_found old c.args.state.now c.in-Some.seq c.in-Some.body (sym c.in-Some.is ∙ c.in_ok-at.ensures)) c.miss_body-missed.result c.miss_body-missed.ensures.ok
+    (misses_found old c.args.state.now c.in-Some.seq c.in-Some.body (sym c.in-Some.is ∙ c.in_ok-seq.ensures)) c.miss_body-missed.result c.miss_body-missed.ensures.ok
 
 pub returns-in-Some-clause-cut : goal.returns-in-Some-clause-cut
 returns-in-Some-clause-cut c =
     let old = c.args.parts.now in
     leads_miss_cut (λ fs. FindsAnswer fs old) (λ fs. SeesSeqnum old c.in-Some.seq.0) (λ fs. next_missed fs old) (λ fs setup store a. misses_record store c.in-Some.seq.0 c.in-Some.body)
     old c.miss_body-missed.new.parts c.args.state.now
-    (misses_found old c.args.state.now c.in-Some.seq c.in-Some.body (sym c.in-Some.is ∙ c.in_ok-at.ensures)) c.miss_body-missed.result c.miss_body-missed.ensures.cut
+    (misses_found old c.args.state.now c.in-Some.seq c.in-Some.body (sym c.in-Some.is ∙ c.in_ok-seq.ensures)) c.miss_body-missed.result c.miss_body-missed.ensures.cut
 
 pub returns-in-None-clause-ok : goal.returns-in-None-clause-ok
 returns-in-None-clause-ok c = λ fs setup store a stands finds.
-    absurd (found_none fs c.args.parts.now c.args.state.now (sym c.in-None.is ∙ c.in_ok-at.ensures) setup store a stands finds)
+    absurd (found_none fs c.args.parts.now c.args.state.now (sym c.in-None.is ∙ c.in_ok-seq.ensures) setup store a stands finds)
