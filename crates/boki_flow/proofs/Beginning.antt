@@ -101,6 +101,6 @@ module _ (fs : List Function) (parts : Parts) (kept : AttemptState) where
     needs = λ setup store a stands called. called;
     same = λ setup store a stands called.
         let there = found_at seq (nth (step_tag a.path) 0 (view parts.book a.engine)) (some ∙ first_same a stands.attempt) in
-        sym (ap (λ (o : Option (Live Body)). init_step setup fs a store (view parts.book a.engine) (next_sent parts.book a.engine) call o) there.1.0
+        sym (ap (λ (o : Option (Live Body)). init_step setup fs a store (view parts.book a.engine) (next_sent parts.book a.engine) call o) there.1
         ∙ ap (λ (n : ℕ). adopts_init fs parts call n setup store a) there.2);
   }

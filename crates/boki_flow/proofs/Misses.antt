@@ -59,6 +59,11 @@ pub misses_none : (setup : Setup) (fs : List Function) (store : Store) (a : Atte
     → FlowStandsFor setup fs store a parts kept → IsMissed setup (nothing_missed store) parts parts what.Nothing
 misses_none setup fs store a parts kept stands = record { what_is = refl; parts = stands.parts; book = refl }
 
+-- what isn't there
+pub none_is : {X : Type 0} (o : Option X) → ((x : X) → o ≡ Some x → ⊥) → o ≡ None
+none_is None isnt = refl
+none_is (Some x) isnt = absurd (isnt x refl)
+
 pub miss_cut_before : (P : List Function → Setup → Store → Attempt → Type 0) (missed : List Function → Setup → Store → Attempt → Missed) (parts : Parts) (kept : AttemptState)
     → MissCutShortBy P missed parts parts kept
 miss_cut_before P missed parts kept fs setup store a stands p = record { book = refl; parts = inl stands.parts }

@@ -20,6 +20,7 @@ use Rattle.step_log.specs.Sound.{Sound}
 use Rattle.attempt_state.specs.declared.progress.Progress.{Progress}
 use Rattle.attempt_state.specs.declared.state.AttemptState.{AttemptState}
 use Rattle.attempt_state.specs.Progresses.{begin_of}
+use Rattle.attempt_state.specs.Attempts.{HasScript}
 use Rattle.attempt_state.specs.Sending.{AskHasPath}
 use Rattle.attempt_log.specs.Sent.{asked_body, IsAskSent}
 use Rattle.attempt_log.specs.Moves.{attempt_state, asked_move}

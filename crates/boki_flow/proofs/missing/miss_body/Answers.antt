@@ -1,4 +1,5 @@
 use Rattle.std.proofs.Common.{[], ◌∷◌, sym, ap, subst}
+use Rattle.boki_types.specs.declared.line.Miss.TheVariants as what
 use Rattle.boki_machine.specs.Step.{Missed, misses_record, misses_marker}
 use Rattle.boki_flow.specs.Flow.{IsMissed}
 use Rattle.boki_flow.specs.Arms.{SeesSeqnum}
@@ -40,6 +41,6 @@ returns-in-ReadGroup-clause-cut c =
 
 pub returns-in_default-clause-ok : goal.returns-in_default-clause-ok
 returns-in_default-clause-ok c = λ fs setup store a stands p.
-    subst (λ (missed : Missed). IsMissed setup missed c.args.parts.now c.args.parts.now _)
+    subst (λ (missed : Missed). IsMissed setup missed c.args.parts.now c.args.parts.now what.Nothing)
     (no_marker store c.args.seq.0 c.args.body.now c.in_default.not-Read c.in_default.not-ReadGroup)
     (misses_none setup fs store a c.args.parts.now c.args.state.now stands)

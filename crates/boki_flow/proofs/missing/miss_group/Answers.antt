@@ -11,7 +11,7 @@ returns-in-Gone-clause-ok c =
     let engine = c.args.state.now.progress.engine in
     group_gone old c.args.state.now c.args.seq.0 c.read_group_marked.new.store c.args.keys.now
     (subst (λ (a : GroupAnswer). ReadsGroupMarked old.book engine c.args.seq.0 c.args.keys.now old.store c.read_group_marked.new.store a) c.in-Gone.is
-    c.in_ok-read_group_marked.ensures.ok)
+    (subst (λ (keys : List (List ℕ)). ReadsGroupMarked old.book engine c.args.seq.0 keys old.store c.read_group_marked.new.store c.in_ok-read_group_marked.field-0) c.as_slice.ensures c.in_ok-read_group_marked.ensures.ok))
 
 pub returns-in-Values-clause-ok : goal.returns-in-Values-clause-ok
 returns-in-Values-clause-ok c =
@@ -19,4 +19,4 @@ returns-in-Values-clause-ok c =
     let engine = c.args.state.now.progress.engine in
     group_read old c.args.state.now c.args.seq.0 c.read_group_marked.new.store c.args.keys.now c.in-Values.values
     (subst (λ (a : GroupAnswer). ReadsGroupMarked old.book engine c.args.seq.0 c.args.keys.now old.store c.read_group_marked.new.store a) c.in-Values.is
-    c.in_ok-read_group_marked.ensures.ok)
+    (subst (λ (keys : List (List ℕ)). ReadsGroupMarked old.book engine c.args.seq.0 keys old.store c.read_group_marked.new.store c.in_ok-read_group_marked.field-0) c.as_slice.ensures c.in_ok-read_group_marked.ensures.ok))

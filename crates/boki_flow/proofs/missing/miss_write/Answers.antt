@@ -4,12 +4,14 @@ use Rattle.boki_types.specs.declared.operation.Op.TheVariants as o
 use Rattle.boki_model.specs.Writes.{put_at}
 use Rattle.boki_machine.specs.Step.{misses_write, misses_put}
 use Rattle.boki_flow.specs.Arms.{ScriptAsks}
+use Rattle.boki_flow.proofs.Standing.{on_err}
 use Rattle.boki_flow.proofs.Leading.{leads_misses, leads_miss_cut}
-use Rattle.boki_flow.proofs.Misses.{misses_frees, misses_there, misses_gone, misses_stores, put_missed, write_missed, miss_cut_before}
+use Rattle.boki_flow.proofs.Misses.{misses_frees, misses_there, misses_gone, misses_stores, put_missed, write_missed, miss_cut_stays}
 use Rattle.boki_flow.proofs.missing.miss_write.Goals as goal
 
 pub returns-in_err-store_write-clause-cut : goal.returns-in_err-store_write-clause-cut
-returns-in_err-store_write-clause-cut c = ?
+returns-in_err-store_write-clause-cut c = on_err c.from_residual.result
+    (miss_cut_stays (λ fs. ScriptAsks fs (k.Op (o.Write c.args.key.now c.args.value.now))) (write_missed c.args.parts.now c.args.state.now c.args.key.now c.args.value.now) c.args.parts.now c.args.state.now c.store_write.new.store c.in_err-store_write.ensures.err)
 
 pub returns-then-writes_freely-clause-ok : goal.returns-then-writes_freely-clause-ok
 returns-then-writes_freely-clause-ok c =
