@@ -12,4 +12,4 @@ returns-in-Op-Write-clause-cut c =
     let key = c.in-Op-Write.key in
     let v = c.in-Op-Write.value in
     leads_miss_cut (λ fs. HasBegun) (λ fs. ScriptAsks fs (k.Op (o.Write key v))) asked_missed (λ fs setup store a. misses_write setup a store key v a.mode a.late) c.args.parts.now c.miss_write.new.parts c.args.state.now
-    (misses_writes c.args.parts.now c.args.state.now c.in-Some.frame c.in-Some.is key v (sym c.ask.ensures.same ∙ c.in-Op-Write.is)) c.miss_write.result c.miss_write.ensures.cut
+    (misses_writes c.args.parts.now c.args.state.now c.in-Some.frame c.in-Some.is key v (sym c.ask.ensures.same ∙ c.in-Op-Write.is ∙ ap k.Op c.in-Op-Write.field-0-is)) c.miss_write.result c.miss_write.ensures.cut

@@ -13,12 +13,12 @@ returns-in_err-put_w-clause-cut c = on_err c.from_residual.result
 
 pub returns-in-Done-clause-ok : goal.returns-in-Done-clause-ok
 returns-in-Done-clause-ok c =
-    misses_puts c.args.parts.now c.args.state.now c.args.key.now c.args.value.now c.in-Some.number c.put_w.new.store c.in_ok-put_w.field-0 c.in-Some.ensures
+    misses_puts c.args.parts.now c.args.state.now c.args.key.now c.args.value.now c.in-Some.number c.put_w.new.store c.in_ok-put_w.field-0 c.in-Some.ensures.1
     (subst (λ (key : List ℕ). PutsFree key c.args.state.now.progress.cursor.0 c.in-Some.number c.args.value.now c.args.parts.now.store c.put_w.new.store c.in_ok-put_w.field-0) c.as_str.ensures c.in_ok-put_w.ensures.ok) c.in-Done.is
 
 pub returns-in_default-2 : goal.returns-in_default-2
 returns-in_default-2 c = record {
-  ok = misses_unput c.args.parts.now c.args.state.now c.args.key.now c.args.value.now c.in-Some.number c.put_w.new.store c.in_ok-put_w.field-0 c.in-Some.ensures
+  ok = misses_unput c.args.parts.now c.args.state.now c.args.key.now c.args.value.now c.in-Some.number c.put_w.new.store c.in_ok-put_w.field-0 c.in-Some.ensures.1
       (subst (λ (key : List ℕ). PutsFree key c.args.state.now.progress.cursor.0 c.in-Some.number c.args.value.now c.args.parts.now.store c.put_w.new.store c.in_ok-put_w.field-0) c.as_str.ensures c.in_ok-put_w.ensures.ok) c.in_default-2.not-Done;
   cut = tt;
 }
