@@ -59,6 +59,15 @@ pub misses_none : (setup : Setup) (fs : List Function) (store : Store) (a : Atte
     → FlowStandsFor setup fs store a parts kept → IsMissed setup (nothing_missed store) parts parts what.Nothing
 misses_none setup fs store a parts kept stands = record { what_is = refl; parts = stands.parts; book = refl }
 
+-- either of two, where the second was asked first
+pub by_stored : (inline stored value : Bool) → stored ≡ true → value ≡ true → (inline || stored) ≡ value
+by_stored true stored value e is = sym is
+by_stored false stored value e is = e ∙ sym is
+
+pub by_inline : (inline stored value : Bool) → stored ≡ false → value ≡ inline → (inline || stored) ≡ value
+by_inline true stored value e is = sym is
+by_inline false stored value e is = e ∙ sym is
+
 -- what isn't there
 pub none_is : {X : Type 0} (o : Option X) → ((x : X) → o ≡ Some x → ⊥) → o ≡ None
 none_is None isnt = refl
@@ -323,7 +332,7 @@ module _ (parts : Parts) (kept : AttemptState) (key : List ℕ) (v : Value) wher
 
   module _ (logged : writes_freely kept.progress.mode kept.progress.late ≡ false) where
     -- whether its value is stored already, or is to stand in its record
-    abbrev is_there : Bool
+    abbrev pub is_there : Bool
     is_there = (is_new_engine parts.newer kept.progress.engine && is_short_value v) || kept.progress.stored
 
     there_is : (fs : List Function) (setup : Setup) (store : Store) (a : Attempt) → FlowStandsFor setup fs store a parts kept → (is_inline setup a v || a.stored) ≡ is_there
