@@ -36,19 +36,19 @@ returns-then-writes_freely-clause-cut c =
 
 pub returns-then-is_inline-clause-ok : goal.returns-then-is_inline-clause-ok
 returns-then-is_inline-clause-ok c =
-    let there : is_there c.args.parts.now c.args.state.now c.args.key.now c.args.value.now (sym c.writes_freely.ensures ∙ c.if-writes_freely.false) ≡ c.if-at.value = (elim c.if-at.branch [ then-at w ↦ by_stored _ _ _ w.if-at.true w.value-is | else-at w ↦ by_inline _ _ _ w.if-at.false (w.value-is ∙ w.is_inline.ensures) ]) in
+    let there : is_there c.args.parts.now c.args.state.now c.args.key.now c.args.value.now (sym c.writes_freely.ensures ∙ c.if-writes_freely.false) ≡ c.if-at.value = (elim c.if-at.branch [ then-at w ↦ by_stored _ _ _ w.if-at.true (w.value-is ∙ w.if-at.true) | else-at w ↦ by_inline _ _ _ w.if-at.false (w.value-is ∙ w.is_inline.ensures) ]) in
     misses_there c.args.parts.now c.args.state.now c.args.key.now c.args.value.now (sym c.writes_freely.ensures ∙ c.if-writes_freely.false) (there ∙ c.if-is_inline.true)
 
 pub returns-in-Done-clause-ok : goal.returns-in-Done-clause-ok
 returns-in-Done-clause-ok c =
-    let there : is_there c.args.parts.now c.args.state.now c.args.key.now c.args.value.now (sym c.writes_freely.ensures ∙ c.if-writes_freely.false) ≡ c.if-at.value = (elim c.if-at.branch [ then-at w ↦ by_stored _ _ _ w.if-at.true w.value-is | else-at w ↦ by_inline _ _ _ w.if-at.false (w.value-is ∙ w.is_inline.ensures) ]) in
+    let there : is_there c.args.parts.now c.args.state.now c.args.key.now c.args.value.now (sym c.writes_freely.ensures ∙ c.if-writes_freely.false) ≡ c.if-at.value = (elim c.if-at.branch [ then-at w ↦ by_stored _ _ _ w.if-at.true (w.value-is ∙ w.if-at.true) | else-at w ↦ by_inline _ _ _ w.if-at.false (w.value-is ∙ w.is_inline.ensures) ]) in
     misses_stores c.args.parts.now c.args.state.now c.args.key.now c.args.value.now (sym c.writes_freely.ensures ∙ c.if-writes_freely.false) (there ∙ c.if-is_inline.false) c.write_name.result c.store_write.new.store
     c.write_name.ensures.path c.write_name.ensures.place
     (subst (λ (told : Named). StoresNamed c.write_name.result c.args.state.now.progress.cursor.0 c.args.value.now c.args.parts.now.store c.store_write.new.store told) c.in-Done.is c.in_ok-store_write.ensures.ok)
 
 pub returns-in-Gone-clause-ok : goal.returns-in-Gone-clause-ok
 returns-in-Gone-clause-ok c =
-    let there : is_there c.args.parts.now c.args.state.now c.args.key.now c.args.value.now (sym c.writes_freely.ensures ∙ c.if-writes_freely.false) ≡ c.if-at.value = (elim c.if-at.branch [ then-at w ↦ by_stored _ _ _ w.if-at.true w.value-is | else-at w ↦ by_inline _ _ _ w.if-at.false (w.value-is ∙ w.is_inline.ensures) ]) in
+    let there : is_there c.args.parts.now c.args.state.now c.args.key.now c.args.value.now (sym c.writes_freely.ensures ∙ c.if-writes_freely.false) ≡ c.if-at.value = (elim c.if-at.branch [ then-at w ↦ by_stored _ _ _ w.if-at.true (w.value-is ∙ w.if-at.true) | else-at w ↦ by_inline _ _ _ w.if-at.false (w.value-is ∙ w.is_inline.ensures) ]) in
     misses_gone c.args.parts.now c.args.state.now c.args.key.now c.args.value.now (sym c.writes_freely.ensures ∙ c.if-writes_freely.false) (there ∙ c.if-is_inline.false) c.write_name.result c.store_write.new.store
     c.write_name.ensures.path c.write_name.ensures.place
     (subst (λ (told : Named). StoresNamed c.write_name.result c.args.state.now.progress.cursor.0 c.args.value.now c.args.parts.now.store c.store_write.new.store told) c.in-Gone.is c.in_ok-store_write.ensures.ok)
