@@ -5,12 +5,14 @@
 #![tactic(auto)]
 
 mod adopting;
+mod answering;
 mod asking;
 mod attempt;
 mod caches;
 mod cases;
 mod init;
 mod missing;
+mod taking;
 
 pub use attempt::Attempt;
 pub use boki_types::{Life, Miss, StepLine};
