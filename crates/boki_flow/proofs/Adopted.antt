@@ -26,7 +26,7 @@ use Rattle.boki_model.specs.Modes.{result_of}
 use Rattle.boki_model.specs.Reads.{nth}
 use Rattle.boki_model.specs.Writes.{Store, read_fenced, after_read_fenced, raise_fences}
 use Rattle.boki_machine.specs.Attempt.{Attempt, Move, moves, adopts, answered_with, next_index}
-use Rattle.boki_machine.specs.Step.{records_below, is_committed, fenced_value, read_all, stop_gone, adopts_answer, adopts_marker, adopts_join, adopts_operation, continue_step, unless_waiting, script_step, attempt_ask, answers_to, adopt_or}
+use Rattle.boki_machine.specs.Step.{seqnum, records_below, is_committed, fenced_value, read_all, stop_gone, adopts_answer, adopts_marker, adopts_join, adopts_operation, continue_step, unless_waiting, script_step, attempt_ask, answers_to, adopt_or}
 use Rattle.machine_laws.specs.Adopts.{AdoptsAsked, RecordsOperation, adopted_answer}
 use Rattle.machine_laws.specs.Children.{HasPath}
 use Rattle.machine_laws.specs.Ends.{finish_in, last_tagged}
@@ -246,14 +246,15 @@ module _ (fs : List Function) (parts : Parts) (kept : AttemptState) (seq : Seqnu
   })
 
   -- It is answered by the record alone.
-  pub answers_alone : (answer : Answer) (l : StepLine) (after : AttemptState) (at : Progress) (said : Body) → body ≡ said → at ≡ changed
-      → ((store : Store) (a : Attempt) → adopts_operation a store (view parts.book a.engine) seq.0 said (moves a store line.WaitsRecord) ≡ adopts_answer a store seq.0 answer l)
-      → {E : Type 0} (result : Result StepLine E) → IfOk result (λ told. told ≡ l) → IfOk result (λ told. AnswerTaken fs at answer kept after)
+  pub answers_alone : (answer : Answer) (l : Seqnum → StepLine) (after : AttemptState) (at : Progress) (said : Body) → body ≡ said → at ≡ changed
+      → ((store : Store) (a : Attempt) → adopts_operation a store (view parts.book a.engine) seq.0 said (moves a store line.WaitsRecord) ≡ adopts_answer a store seq.0 answer (l (seqnum seq.0)))
+      → {E : Type 0} (result : Result StepLine E) → IfOk result (λ told. told ≡ l at.cursor) → IfOk result (λ told. AnswerTaken fs at answer kept after)
       → IfOk result (MovesBy (AdoptsBody fs parts seq.0 body) (adopting_move parts seq.0 body) fs parts parts kept after)
   answers_alone answer l after at said is e so (Ok told) told_is taken = λ setup store a stands adopting.
       subst (λ (move : Move). IsMoved setup fs a.engine move parts parts after told)
       (sym (so store a) ∙ moves_same setup store a stands adopting said is)
-      (answers_so fs parts parts kept after at answer l told (keeps_parts parts) told_is taken setup store a stands adopting.script seq.0 (e ∙ changed_is a stands.attempt))
+      (answers_so fs parts parts kept after at answer (l (seqnum seq.0)) told (keeps_parts parts) (told_is ∙ ap (λ (p : Progress). l p.cursor) e) taken
+      setup store a stands adopting.script seq.0 (e ∙ changed_is a stands.attempt))
   answers_alone answer l after at said is e so (Err w) told_is taken = tt
 
   -- It is of no operation.
@@ -323,6 +324,25 @@ module _ (fs : List Function) (parts : Parts) (kept : AttemptState) (seq : Seqnu
     join_child p i ordinal is =
         let asked = records_is can.setup can.store can.attempt can.stands can.holds (b.Join p i ordinal) is in
         adopting_child (o.Join ordinal) (b.Join p i ordinal) p i is refl asked.asks
+
+-- a record of no operation
+pub no_operation : (body : Body) → ((p : List ℕ) (i : ℕ) (key : List ℕ) → body ≡ b.Read p i key → ⊥) → ((p : List ℕ) (i : ℕ) (keys : List (List ℕ)) → body ≡ b.ReadGroup p i keys → ⊥)
+    → ((p : List ℕ) (i place : ℕ) (key : List ℕ) (here : Option Value) → body ≡ b.Write p i place key here → ⊥)
+    → ((p : List ℕ) (i ordinal : ℕ) (name : List ℕ) (args : List Value) → body ≡ b.Spawn p i ordinal name args → ⊥)
+    → ((p : List ℕ) (i ordinal : ℕ) → body ≡ b.Join p i ordinal → ⊥) → ((p : List ℕ) (i : ℕ) (queue : List ℕ) (value : Value) → body ≡ b.Push p i queue value → ⊥)
+    → ((p : List ℕ) (i : ℕ) (queue : List ℕ) → body ≡ b.Pop p i queue → ⊥) → ((p : List ℕ) (i : ℕ) (names : List (List ℕ)) → body ≡ b.TxnBegin p i names → ⊥)
+    → ((p : List ℕ) (i begin : ℕ) (names : List (List ℕ)) (writes : List (List ℕ × Value)) → body ≡ b.TxnCommit p i begin names writes → ⊥)
+    → (fs : List Function) (store : Store) (seen : List (Live Body)) (a : Attempt) (op : Op) → RecordsOperation fs store seen a body op → ⊥
+no_operation (b.Read p i key) one group write spawn join push pop begin commit fs store seen a op is = one p i key refl
+no_operation (b.ReadGroup p i keys) one group write spawn join push pop begin commit fs store seen a op is = group p i keys refl
+no_operation (b.Write p i place key here) one group write spawn join push pop begin commit fs store seen a op is = write p i place key here refl
+no_operation (b.Spawn p i ordinal name args) one group write spawn join push pop begin commit fs store seen a op is = spawn p i ordinal name args refl
+no_operation (b.Join p i ordinal) one group write spawn join push pop begin commit fs store seen a op is = join p i ordinal refl
+no_operation (b.Push p i queue value) one group write spawn join push pop begin commit fs store seen a op is = push p i queue value refl
+no_operation (b.Pop p i queue) one group write spawn join push pop begin commit fs store seen a op is = pop p i queue refl
+no_operation (b.TxnBegin p i names) one group write spawn join push pop begin commit fs store seen a op is = begin p i names refl
+no_operation (b.TxnCommit p i start names writes) one group write spawn join push pop begin commit fs store seen a op is = commit p i start names writes refl
+no_operation _ one group write spawn join push pop begin commit fs store seen a op is = is
 
 -- the ordinal of a child's path is small
 pub child_small : (path child : List ℕ) (ordinal : ℕ) → child_path path ordinal ≡ Some child → ordinal < 4096
