@@ -143,6 +143,13 @@ module _ (fs : List Function) (parts new : Parts) (kept after : AttemptState) (c
   pub answers_so : changed ≡ progress_of (adopts a seq) → IsMoved setup fs a.engine (adopts_answer a store seq answer l) parts new after told
   answers_so is = answers_with a.transaction is
 
+-- what stands in two that are the same
+some_same : {X : Type 0} (x y : X) → Some x ≡ Some y → x ≡ y
+some_same x y e = cc
+
+step_path : (p q : List ℕ) (i j : ℕ) → Some (p, i) ≡ Some (q, j) → p ≡ q
+step_path p q i j e = cc
+
 -- The record at its place says this, and the attempt's state behind it is known.
 module _ (fs : List Function) (parts : Parts) (kept : AttemptState) (seq : Seqnum) (body : Body) where
   abbrev changed : Progress
@@ -186,7 +193,7 @@ module _ (fs : List Function) (parts : Parts) (kept : AttemptState) (seq : Seqnu
             ∙ is
 
         same : adopting.adopts.answer ≡ answer
-        same = let some = there in cc
+        same = some_same adopting.adopts.answer answer there
 
     taking : (op : Op) → adopting.op ≡ op → IsTaking fs (k.Op op) seq.0 changed a
     taking op is = record { script = adopting.script; asked = adopting.asks ∙ ap (λ (x : Op). Some (k.Op x)) is; changed_is = changed_is a stands.attempt }
@@ -203,7 +210,7 @@ module _ (fs : List Function) (parts : Parts) (kept : AttemptState) (seq : Seqnu
     needs = λ setup store a stands adopting. taking setup store a stands adopting (o.Join ordinal) (records_is setup store a stands adopting (b.Join p i ordinal) is).asks;
     same = λ setup store a stands adopting.
         let step = step_is setup store a stands adopting (b.Join p i ordinal) is in
-        let path_is : a.path ≡ p = cc in
+        let path_is = step_path a.path p (next_index a.answers) i (sym step) in
         ap (λ (path : List ℕ). adopts_join a store seq.0 (child path ordinal) (result_of (child path ordinal) (view parts.book a.engine))) path_is
         ∙ moves_same setup store a stands adopting (b.Join p i ordinal) is;
   })
@@ -306,8 +313,7 @@ module _ (fs : List Function) (parts : Parts) (kept : AttemptState) (seq : Seqnu
 
     adopting_path : (said : Body) (p : List ℕ) (i : ℕ) → body ≡ said → step_of said ≡ Some (p, i) → can.attempt.path ≡ p
     adopting_path said p i is there =
-        let step = sym there ∙ step_is can.setup can.store can.attempt can.stands can.holds said is in
-        cc
+        step_path can.attempt.path p (next_index can.attempt.answers) i (sym (step_is can.setup can.store can.attempt can.stands can.holds said is) ∙ there)
 
     adopting_child : (op : Op) (said : Body) (p : List ℕ) (i : ℕ) → body ≡ said → step_of said ≡ Some (p, i) → can.holds.op ≡ op → HasPath p op
     adopting_child op said p i is there asks =
@@ -333,16 +339,16 @@ pub no_operation : (body : Body) → ((p : List ℕ) (i : ℕ) (key : List ℕ) 
     → ((p : List ℕ) (i : ℕ) (queue : List ℕ) → body ≡ b.Pop p i queue → ⊥) → ((p : List ℕ) (i : ℕ) (names : List (List ℕ)) → body ≡ b.TxnBegin p i names → ⊥)
     → ((p : List ℕ) (i begin : ℕ) (names : List (List ℕ)) (writes : List (List ℕ × Value)) → body ≡ b.TxnCommit p i begin names writes → ⊥)
     → (fs : List Function) (store : Store) (seen : List (Live Body)) (a : Attempt) (op : Op) → RecordsOperation fs store seen a body op → ⊥
-no_operation (b.Read p i key) one group write spawn join push pop begin commit fs store seen a op is = one p i key refl
-no_operation (b.ReadGroup p i keys) one group write spawn join push pop begin commit fs store seen a op is = group p i keys refl
-no_operation (b.Write p i place key here) one group write spawn join push pop begin commit fs store seen a op is = write p i place key here refl
-no_operation (b.Spawn p i ordinal name args) one group write spawn join push pop begin commit fs store seen a op is = spawn p i ordinal name args refl
-no_operation (b.Join p i ordinal) one group write spawn join push pop begin commit fs store seen a op is = join p i ordinal refl
-no_operation (b.Push p i queue value) one group write spawn join push pop begin commit fs store seen a op is = push p i queue value refl
-no_operation (b.Pop p i queue) one group write spawn join push pop begin commit fs store seen a op is = pop p i queue refl
-no_operation (b.TxnBegin p i names) one group write spawn join push pop begin commit fs store seen a op is = begin p i names refl
-no_operation (b.TxnCommit p i start names writes) one group write spawn join push pop begin commit fs store seen a op is = commit p i start names writes refl
-no_operation _ one group write spawn join push pop begin commit fs store seen a op is = is
+no_operation (b.Read p i key) one group write spawn join push pop begin commit fs store view a op is = one p i key refl
+no_operation (b.ReadGroup p i keys) one group write spawn join push pop begin commit fs store view a op is = group p i keys refl
+no_operation (b.Write p i place key here) one group write spawn join push pop begin commit fs store view a op is = write p i place key here refl
+no_operation (b.Spawn p i ordinal name args) one group write spawn join push pop begin commit fs store view a op is = spawn p i ordinal name args refl
+no_operation (b.Join p i ordinal) one group write spawn join push pop begin commit fs store view a op is = join p i ordinal refl
+no_operation (b.Push p i queue value) one group write spawn join push pop begin commit fs store view a op is = push p i queue value refl
+no_operation (b.Pop p i queue) one group write spawn join push pop begin commit fs store view a op is = pop p i queue refl
+no_operation (b.TxnBegin p i names) one group write spawn join push pop begin commit fs store view a op is = begin p i names refl
+no_operation (b.TxnCommit p i start names writes) one group write spawn join push pop begin commit fs store view a op is = commit p i start names writes refl
+no_operation _ one group write spawn join push pop begin commit fs store view a op is = is
 
 -- the ordinal of a child's path is small
 pub child_small : (path child : List ℕ) (ordinal : ℕ) → child_path path ordinal ≡ Some child → ordinal < 4096
