@@ -1,3 +1,4 @@
 pub mod Entries
 pub mod Folding
+pub mod Telling
 pub mod Walks
