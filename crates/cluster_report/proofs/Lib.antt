@@ -1,4 +1,4 @@
 pub mod Entries
 pub mod Folding
-pub mod Telling
+pub mod KeyValues
 pub mod Walks

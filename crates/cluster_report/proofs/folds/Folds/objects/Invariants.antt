@@ -3,7 +3,7 @@ use Rattle.boki_types.specs.declared.body.Body.{Body}
 use Rattle.boki_model.specs.Live.{Live}
 use Rattle.boki_model.specs.Writes.{Store}
 use Rattle.cluster_report.specs.Told.{AreLast, CanTell, values_upto}
-use Rattle.cluster_report.proofs.values.Folds.objects.Given as goal
+use Rattle.cluster_report.proofs.folds.Folds.objects.Given as goal
 
 abbrev pub invariant-loop-key : goal.invariant-loop-key
 invariant-loop-key l =
