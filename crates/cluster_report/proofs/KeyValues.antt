@@ -45,3 +45,7 @@ told_more last m records key w es old new all is told =
     ∙ append_assoc old (add_value key o []) rest
     ∙ ap (λ xs. old ++ xs) (sym (value_apart key o rest))
     ∙ told
+
+-- a read that found nothing told nothing
+pub nothing_told : (key : List ℕ) (o : Option Value) (xs : List (List ℕ × Value)) → None ≡ o → xs ≡ xs ++ add_value key o []
+nothing_told key o xs is = sym (append_nil xs) ∙ ap (λ (x : Option Value). xs ++ add_value key x []) is

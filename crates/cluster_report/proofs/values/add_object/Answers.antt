@@ -5,7 +5,7 @@ use Rattle.lb_base.specs.declared.value.Value.{Value}
 use Rattle.boki_machine.specs.Reports.{add_value}
 use Rattle.obj_store.specs.Answers.{fenced_of, logged_parts}
 use Rattle.store_laws.proofs.Told.{last_is_told}
-use Rattle.cluster_report.proofs.KeyValues.{found, found_upto}
+use Rattle.cluster_report.proofs.KeyValues.{found, found_upto, nothing_told}
 use Rattle.cluster_report.proofs.values.add_object.Goals as goal
 
 pub returns-in-Found : goal.returns-in-Found
@@ -25,4 +25,5 @@ returns-in-Missing c = λ m records can last.
     let key = c.args.key.now in
     let known = last_is_told c.args.store.now m records key (suc c.args.last.0) (option_copied c.as_ref.result) can.kept.stands can.kept.values parts in
     let read = ap found (c.read_free.ensures.read m records can.kept.stands known) ∙ found_upto key c.args.last.0 m records can.within in
-    nothing_told c.args.values.now key c.read_free.result c.in-Missing.is read
+    let is = sym (ap (λ r. found (fenced_of r)) c.in-Missing.is) ∙ read in
+    nothing_told key _ c.args.values.now is
