@@ -32,7 +32,7 @@ use Rattle.boki_types.specs.declared.plan.Setup.{Setup}
 use Rattle.boki_types.specs.declared.program.Function.{Function}
 use Rattle.boki_model.specs.Writes.{Store}
 use Rattle.boki_machine.specs.Attempt.{Attempt, Move, moves, adopts, call_of}
-use Rattle.boki_machine.specs.Step.{Missed, seqnum, attempt_ask, answers_to, adopts_answer, adopts_join, adopts_operation, records_below, is_committed, step_if_running, step_when_called, continue_step, misses_at, misses_asked, init_step, script_step, join_step}
+use Rattle.boki_machine.specs.Step.{Missed, seqnum, attempt_ask, answers_to, adopts_answer, adopts_join, adopts_operation, records_below, is_committed, step_if_running, step_when_called, continue_step, misses_at, misses_asked, init_step, script_step, reads, reads_group, writes, logged_write_step, is_inline, join_step}
 use Rattle.boki_model.specs.Live.{Live}
 use Rattle.boki_types.specs.declared.body.Body.{Body}
 use Rattle.attempt_state.specs.declared.state.AttemptState.{AttemptState}
@@ -265,3 +265,18 @@ init_move fs parts call setup store a =
 abbrev pub adopts_init : List Function → Parts → Call → ℕ → Setup → Store → Attempt → Move
 adopts_init fs parts call seq setup store a =
     adopted_init fs a store seq call (mode_after setup.mode (records_below seq (view parts.book a.engine)))
+
+-- Of what the script asks: a read, a read of several objects, a write, and a write that isn't free.
+abbrev pub read_move : Parts → List ℕ → Setup → Store → Attempt → Move
+read_move parts key setup store a = reads a store (view parts.book a.engine) (next_sent parts.book a.engine) key a.mode
+
+abbrev pub read_group_move : Parts → List (List ℕ) → Setup → Store → Attempt → Move
+read_group_move parts keys setup store a =
+    reads_group a store (view parts.book a.engine) (next_sent parts.book a.engine) keys a.mode
+
+abbrev pub write_move : Parts → List ℕ → Value → Setup → Store → Attempt → Move
+write_move parts key v setup store a = writes setup a store (next_sent parts.book a.engine) key v a.mode a.late
+
+abbrev pub logged_move : Parts → List ℕ → Value → Setup → Store → Attempt → Move
+logged_move parts key v setup store a =
+    logged_write_step (is_inline setup a v) a.stored a store (next_sent parts.book a.engine) key v
