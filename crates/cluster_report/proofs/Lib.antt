@@ -1,2 +1,5 @@
 pub mod Entries
+pub mod Holding
+pub mod LastValues
+pub mod Passed
 pub mod Walks
