@@ -28,6 +28,7 @@ use Rattle.cluster_report.specs.declared.turning.Walk.{Walk}
 use Rattle.cluster_report.specs.declared.turning.TurnKind.TheVariants as kind
 use Rattle.cluster_report.specs.Reported.{CanReport}
 use Rattle.cluster_report.specs.Turned.{kind_of, HasVersions, AddsTurn, AddsAt}
+use Rattle.cluster_report.proofs.OneTurn.{go_step}
 use Rattle.cluster_report.proofs.Walks.{holds_at, falls, all_seen, none_seen, OneMore, none_more, one_more}
 
 -- a record gives one turn at most
@@ -56,19 +57,6 @@ is_met p i (Some s) ahead is none =
     at : (t : Bool) → t ≡ true → cond t (Some s.1) (get p ahead) ≡ None → ⊥
     at true t e = cc
     at false t e = cc
-
-go_step : (body : Body) (p : List ℕ) (i own : ℕ) → kind_of body ≡ kind.Go p i own → step_of body ≡ Some (p, i)
-go_step (b.Init q) p i own is = cc
-go_step (b.Read q j key) p i own is = cc
-go_step (b.ReadGroup q j keys) p i own is = cc
-go_step (b.Write q j place key value) p i own is = cc
-go_step (b.Spawn q j ordinal f args) p i own is = cc
-go_step (b.Join q j ordinal) p i own is = cc
-go_step (b.Push q j queue value) p i own is = cc
-go_step (b.Pop q j queue) p i own is = cc
-go_step (b.TxnBegin q j names) p i own is = cc
-go_step (b.TxnCommit q j begin names writes) p i own is = cc
-go_step _ p i own is = absurd (let z : ⊥ = cc in z)
 
 -- a result is that of a Finish
 module _ (p : List ℕ) (o : Outcome) where

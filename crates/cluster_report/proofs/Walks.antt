@@ -39,11 +39,11 @@ module _ (book : BookState) where
 
   none_seen_from : (end : ℕ) (xs : List (Live Body)) → FallBelow end xs → upto 0 xs ≡ []
   none_seen_from end [] fall = refl
-  none_seen_from end (x ∷ xs) fall = at x.seq fall.0
+  none_seen_from end (x ∷ xs) fall = at x.seq fall.0 (none_seen_from x.seq xs fall.2)
     where
-      at : (n : ℕ) → 0 < n → cond (leb n 0) (x ∷ xs) (upto 0 xs) ≡ []
-      at zero lt = absurd (let z : ⊥ = omega (arith, lt) in z)
-      at (suc n) lt = none_seen_from x.seq xs fall.2
+      at : (n : ℕ) → 0 < n → upto 0 xs ≡ [] → cond (leb n 0) (x ∷ xs) (upto 0 xs) ≡ []
+      at zero lt rest = absurd (let z : ⊥ = omega (arith, lt) in z)
+      at (suc n) lt rest = rest
 
   pub none_seen : upto 0 (live_bodies book) ≡ []
   none_seen = none_seen_from (suc (length (ordered book))) (live_bodies book) falls

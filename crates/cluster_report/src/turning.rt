@@ -196,7 +196,10 @@ fn operations(
 {
     match next {
         Some(next) => Ok(next.saturating_sub(index)),
-        None => own.checked_add(store.versions_at(seq)).ok_or(Memory),
+        None => {
+            let n = own.checked_add(store.versions_at(seq)).ok_or(Memory)?;
+            Ok(n)
+        }
     }
 }
 
