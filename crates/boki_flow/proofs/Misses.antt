@@ -451,25 +451,25 @@ module _ (parts : Parts) (kept : AttemptState) where
   pub misses_operation : (ask : Ask) (op : Op) → ask ≡ k.Op op
       → (fs : List Function) → Leads (ScriptAsks fs ask) (ScriptAsks fs (k.Op op)) (asked_missed fs) (asked_missed fs) fs parts kept
   misses_operation ask op is fs = record {
-    needs = λ setup store a stands asks. record { script = asks.script; asks = asks.asks ∙ ap Some is };
-    same = λ setup store a stands asks. refl;
+    needs = λ setup store a stands p. record { script = p.script; asks = p.asks ∙ ap Some is };
+    same = λ setup store a stands p. refl;
   }
 
   pub misses_done : (ask : Ask) (outcome : Outcome) → ask ≡ k.Done outcome → MissesBy (λ fs. ScriptAsks fs ask) asked_missed parts parts kept what.Nothing
-  misses_done ask outcome is fs setup store a stands asks =
-      subst (λ (missed : Missed). IsMissed setup missed parts parts what.Nothing) (sym (ap (misses_asked setup a store) (asks.asks ∙ ap Some is)))
+  misses_done ask outcome is fs setup store a stands p =
+      subst (λ (missed : Missed). IsMissed setup missed parts parts what.Nothing) (sym (ap (misses_asked setup a store) (p.asks ∙ ap Some is)))
       (misses_none setup fs store a parts kept stands)
 
   -- the operation is a write, or another
   pub misses_writes : (op : Op) (key : List ℕ) (v : Value) → op ≡ o.Write key v
       → (fs : List Function) → Leads (ScriptAsks fs (k.Op op)) (ScriptAsks fs (k.Op (o.Write key v))) (asked_missed fs) (λ setup store a. misses_write setup a store key v a.mode a.late) fs parts kept
   misses_writes op key v is fs = record {
-    needs = λ setup store a stands asks. record { script = asks.script; asks = asks.asks ∙ ap (λ (x : Op). Some (k.Op x)) is };
-    same = λ setup store a stands asks. sym (ap (misses_asked setup a store) (asks.asks ∙ ap (λ (x : Op). Some (k.Op x)) is));
+    needs = λ setup store a stands p. record { script = p.script; asks = p.asks ∙ ap (λ (x : Op). Some (k.Op x)) is };
+    same = λ setup store a stands p. sym (ap (misses_asked setup a store) (p.asks ∙ ap (λ (x : Op). Some (k.Op x)) is));
   }
 
   pub misses_others : (op : Op) → ((key : List ℕ) (v : Value) → op ≡ o.Write key v → ⊥) → MissesBy (λ fs. ScriptAsks fs (k.Op op)) asked_missed parts parts kept what.Nothing
-  misses_others op isnt fs setup store a stands asks =
+  misses_others op isnt fs setup store a stands p =
       subst (λ (missed : Missed). IsMissed setup missed parts parts what.Nothing)
-      (other_by setup a store op isnt ∙ sym (ap (misses_asked setup a store) asks.asks))
+      (other_by setup a store op isnt ∙ sym (ap (misses_asked setup a store) p.asks))
       (misses_none setup fs store a parts kept stands)
