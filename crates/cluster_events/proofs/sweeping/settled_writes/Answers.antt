@@ -1,7 +1,8 @@
-use Rattle.std.proofs.Common.{◌∙◌, ◌++◌, suc, inl, inr, List, sym, ap, arith}
+use Rattle.std.proofs.Common.{◌≡◌, ◌∙◌, ◌+◌, ◌++◌, suc, inl, inr, List, sym, ap, arith}
 use Rattle.std.proofs.Math.Nat.{le_refl}
 use Rattle.boki_types.specs.declared.store.Settled.{Settled}
 use Rattle.book_api.specs.Books.{position}
+use Rattle.obj_store.specs.Sweeps.{logged_between}
 use Rattle.step_log.specs.Sound.{view}
 use Rattle.hm_switch.proofs.Going.{view_falls}
 use Rattle.cluster_events.specs.Writes.{write_in}
@@ -11,7 +12,7 @@ use Rattle.cluster_events.proofs.sweeping.settled_writes.Goals as goal
 pub loop-seq-init : goal.loop-seq-init
 loop-seq-init c =
     let low = c.args.low.0 in
-    (c.new.ensures ∙ sym (between_empty low low (view c.args.book.now c.args.engine) (le_refl low)), le_refl low, inl (le_refl low))
+    (c.new-settled.ensures ∙ sym (between_empty low low (view c.args.book.now c.args.engine) (le_refl low)), le_refl low, inl (le_refl low))
 
 pub loop-seq-preserved : goal.loop-seq-preserved
 loop-seq-preserved c =
@@ -19,9 +20,11 @@ loop-seq-preserved c =
     let engine = c.args.engine in
     let i = c.loop-seq.invariant in
     let seq = c.loop-seq.seq in
+    let next : suc seq ≡ seq + 1 = omega arith in
     (
       c.in_ok-add_write.ensures ∙ ap (λ (s : List Settled). s ++ write_in (view book engine) seq) i.0
-      ∙ sym (between_more c.args.low.0 seq (suc (position book engine)) (view book engine) (view_falls book engine) i.1),
+      ∙ sym (between_more c.args.low.0 seq (suc (position book engine)) (view book engine) (view_falls book engine) i.1)
+      ∙ ap (λ n. logged_between c.args.low.0 n (view book engine)) next,
       omega (arith, i.1),
       inr (omega arith)
     )
