@@ -30,7 +30,7 @@ use Rattle.attempt_state.specs.declared.state.AttemptState.{AttemptState}
 use Rattle.attempt_state.specs.Attempts.{AttemptStandsFor, HasScript}
 use Rattle.attempt_state.specs.Deciding.{reads_freely, writes_freely}
 use Rattle.attempt_log.specs.Moves.{asked_move}
-use Rattle.attempt_store.specs.Moved.{EitherKept, IsMovedAlone, MovesStore}
+use Rattle.attempt_store.specs.Moved.{CanReadAt, EitherKept, IsMovedAlone, MovesStore}
 use Rattle.flow_parts.specs.declared.parts.Parts.{Parts}
 use Rattle.flow_parts.specs.Parts.{PartsStandFor}
 use Rattle.flow_parts.proofs.Appended.{stored_stands}
@@ -180,6 +180,14 @@ module _ (fs : List Function) (parts : Parts) (kept : AttemptState) where
       (alone_moves setup fs a.engine store parts stands.parts (reads a store seen at key R) after told
       (kept_either store (ltb a.cursor store.floor) _ _ refl refl) (silent_either (ltb a.cursor store.floor) _ _ refl refl)
       (did store a stands.parts.kept stands.attempt p.script (stands.can.may.cursor p.script.runs)))
+
+  pub can_read : (setup : Setup) (store : Store) (a : Attempt) → FlowStandsFor setup fs store a parts kept → HasScript a
+      → CanReadAt parts.book parts.store kept.progress.engine kept.progress.cursor.0
+  can_read setup store a stands script = record {
+    store = store;
+    are = stands.parts.kept;
+    covered = subst (λ (p : Progress). p.cursor.0 ≤ position parts.book p.engine) (sym stands.attempt.progress) (stands.can.may.cursor script.runs);
+  }
 
   pub free_groups : (keys : List (List ℕ)) (after : AttemptState) (told : StepLine) → reads_freely kept.progress.mode ≡ true
       → ((m : Store) (a : Attempt) → AreKept parts.book parts.store m → AttemptStandsFor fs a kept → HasScript a → a.cursor ≤ position parts.book a.engine
