@@ -98,6 +98,15 @@ sent_other setup fs a store seen at (k.Op (o.Write key v)) read group write join
 sent_other setup fs a store seen at (k.Op (o.Join ordinal)) read group write join = absurd (join ordinal refl)
 sent_other setup fs a store seen at (k.Op _) read group write join = refl
 
+-- what either of two is, where the second was asked after the first
+pub by_first : (first second either : Bool) → first ≡ true → either ≡ first → (first || second) ≡ either
+by_first true second either e is = sym is
+by_first false second either e is = let no_way : false ≡ true = e in absurd (cc)
+
+pub by_second : (first second either : Bool) → first ≡ false → either ≡ second → (first || second) ≡ either
+by_second true second either e is = let no_way : true ≡ false = e in absurd (cc)
+by_second false second either e is = sym is
+
 -- of two moves, neither changes the store, nor sends
 kept_either : (store : Store) (first : Bool) (m n : Move) → m.store ≡ store → n.store ≡ store → (cond first m n).store ≡ store
 kept_either store true m n is same = is
