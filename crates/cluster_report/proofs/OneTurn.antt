@@ -103,3 +103,12 @@ module _ (kept : StoreState) (seq : ℕ) where
         turned m records stands (λ none. has path index own is none)
         ∙ ap (λ (ts : List Turn). old.turns.items ++ ts) (sym (go_turn fs old.ahead.entries (versions_at seq m.versions) body path index own is));
   }
+
+  pub adds_go_on :
+      {E : Type 0} (r : Result (Unit {0}) E) (fs : List Function) (body : Body) (path : List ℕ) (index own : ℕ) (old new : Walk)
+      → kind_of body ≡ kind.Go path index own → OnOk r (new.ahead.entries ≡ put path index old.ahead.entries)
+      → OnOk r (Told (λ m. get path old.ahead.entries ≡ None → m.floor ≤ seq)
+      (λ m. new.turns.items ≡ old.turns.items ++ a_turn.Go path (operation_count (get path old.ahead.entries) index own (versions_at seq m.versions)) ∷ []))
+      → OnOk r (AddsTurn fs kept seq body old new)
+  adds_go_on (Ok t) fs body path index own old new is ahead turned = adds_go fs body path index own old new is ahead turned
+  adds_go_on (Err e) fs body path index own old new is ahead turned = tt

@@ -1,5 +1,5 @@
 -- What a report tells of the known keys.
-use Rattle.std.proofs.Common.{◌≡◌, ℕ, suc, ◌≤◌, ltb, false, cond, List, [], ◌∷◌, ◌++◌, length, Option, Some, None, option_map, refl, sym, ap, subst, ◌∙◌, append_assoc}
+use Rattle.std.proofs.Common.{◌≡◌, ℕ, suc, ◌≤◌, ltb, false, cond, List, [], ◌∷◌, ◌++◌, length, Option, Some, None, Result, Ok, Err, IfOk, option_map, refl, sym, ap, subst, ◌∙◌, append_assoc}
 use Rattle.std.proofs.lemmas.Bool.{le-ltb}
 use Rattle.std.proofs.lemmas.List.{append-nil}
 use Rattle.lb_base.specs.declared.value.Value.{Value}
@@ -117,6 +117,16 @@ objects_told book kept keys entries last values long known are told m can =
   where
     abbrev records : List (Live Body)
     records = live_bodies book
+
+pub objects_told_on :
+    {E : Type 0} (book : BookState) (kept : StoreState) (keys : List (List ℕ)) (entries : LastWrites) (last : ℕ) (r : Result (List (List ℕ × Value)) E)
+    → last ≡ length (ordered book)
+    → ((m : Store) (records : List (Live Body)) → StandsFor kept m records → keys ≡ keys_in m records)
+    → entries ≡ writes_in keys (live_bodies book)
+    → IfOk r (λ values. (m : Store) (records : List (Live Body)) → CanTell last kept m records → AreLast last records entries → values ≡ values_upto last m records entries)
+    → IfOk r (λ values. (m : Store) → CanReport book kept m → values ≡ objects_in m book)
+objects_told_on book kept keys entries last (Ok values) long known are told = objects_told book kept keys entries last values long known are told
+objects_told_on book kept keys entries last (Err e) long known are told = tt
 
 pub report_is :
     (fs : List Function) (m : Store) (book : BookState) (r : Report)
