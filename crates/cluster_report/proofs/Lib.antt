@@ -2,6 +2,6 @@ pub mod Entries
 pub mod Holding
 pub mod LastValues
 pub mod OneTurn
+pub mod Parts
 pub mod Passed
-pub mod ToldValues
 pub mod Walks

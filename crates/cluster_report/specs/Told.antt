@@ -1,9 +1,7 @@
 -- What is told of the known keys.
-use Rattle.std.specs.Prelude.{◌≡◌, ℕ, suc, ◌≤◌, List, [], ◌∷◌, Option, Some, None, option_map}
+use Rattle.std.specs.Prelude.{◌≡◌, ℕ, suc, ◌≤◌, List, [], ◌∷◌, Option, option_map}
 use Rattle.lb_base.specs.declared.value.Value.{Value}
 use Rattle.boki_types.specs.declared.body.Body.{Body}
-use Rattle.boki_types.specs.declared.store.Fenced.{Fenced}
-use Rattle.boki_types.specs.declared.store.Fenced.TheVariants as f
 use Rattle.boki_model.specs.Live.{Live}
 use Rattle.boki_model.specs.Writes.{Store, last_value_below}
 use Rattle.boki_machine.specs.Reports.{add_value}
@@ -32,9 +30,3 @@ values_upto last m records (e ∷ es) =
 pub record CanTell (last : ℕ) (state : StoreState) (m : Store) (records : List (Live Body)) : Type 0 where
   pub kept : IsKept state m records
   pub within : m.floor ≤ last
-
--- the value that a read found
-abbrev pub found_value : Fenced → Option Value
-found_value (f.Found v) = Some v
-found_value f.Missing = None
-found_value f.Gone = None

@@ -1,6 +1,6 @@
 use Rattle.std.proofs.Common.{◌≡◌, ◌∙◌, rules}
 use Rattle.step_log.specs.Sound.{live_bodies}
-use Rattle.cluster_report.proofs.ToldValues.{writes_are, objects_told_on}
+use Rattle.cluster_report.proofs.Parts.{writes_are, objects_told_on}
 use Rattle.cluster_report.proofs.report.objects.Goals as goal
 
 pub returns : goal.returns

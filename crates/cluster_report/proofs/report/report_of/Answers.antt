@@ -1,6 +1,6 @@
 use Rattle.std.proofs.Common.{◌≡◌, ◌∙◌, rules}
 use Rattle.step_log.specs.Sound.{live_bodies}
-use Rattle.cluster_report.proofs.ToldValues.{results_are, writes_are, queues_are, stores_are, objects_told, report_is}
+use Rattle.cluster_report.proofs.Parts.{results_are, writes_are, queues_are, stores_are, objects_told, report_is}
 use Rattle.cluster_report.proofs.report.report_of.Goals as goal
 
 pub returns : goal.returns

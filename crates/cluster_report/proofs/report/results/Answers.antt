@@ -1,6 +1,6 @@
 use Rattle.std.proofs.Common.{◌≡◌, [], IfOk, subst}
 use Rattle.step_log.specs.Sound.{live_bodies}
-use Rattle.cluster_report.proofs.ToldValues.{results_are}
+use Rattle.cluster_report.proofs.Parts.{results_are}
 use Rattle.cluster_report.proofs.report.results.Goals as goal
 
 pub returns : goal.returns
