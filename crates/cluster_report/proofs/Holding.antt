@@ -43,7 +43,7 @@ holding_is_reported setup fs m book kept holds shards vectors are = record {
     ends = λ path. subst (λ (xs : List (Live Body)). EndsLast path xs) same_records (holding_ends_last setup fs m path holds).whole;
   };
   same = sym (ap (λ (entries : List (LogRecord Body)). report_of_log fs m.store entries (length entries)) same_log
-  ∙ ap (report_of_log fs m.store (order (bodies book) book.vectors)) (length_is book));
+      ∙ ap (report_of_log fs m.store (order (bodies book) book.vectors)) (length_is book));
 }
   where
     same_log : log m ≡ order (bodies book) book.vectors

@@ -177,7 +177,7 @@ module _ (q : List ℕ) where
       let known = absent_listed (version_keys m.versions (logged_keys_below m.floor records (initial_keys m.initial))) listed.0 in
       let versions = absent_versions m.versions (logged_keys_below m.floor records (initial_keys m.initial)) known in
       let initial = absent_initial m.initial (absent_logged m.floor records (initial_keys m.initial) versions.1) in
-      ap (λ (ws : List Write). option_map (λ (w : Write). w.value) (last_write_below n 0 (ws ++ (logged_writes q m.named records ++ initial_writes q m.initial)))) versions.0
+      ap (λ (ws : List Write). option_map (λ (w : Write). w.value) (last_write_below n 0 ((ws ++ logged_writes q m.named records) ++ initial_writes q m.initial))) versions.0
       ∙ ap (λ (ws : List Write). option_map (λ (w : Write). w.value) (last_write_below n 0 (ws ++ initial_writes q m.initial))) logged.0
       ∙ ap (λ (o : Option Value). option_map (λ (w : Write). w.value) (last_write_below n 0 (prepend_some (option_map (write_at 0 0) o) []))) initial
 
@@ -195,20 +195,18 @@ module _ (keys : List (List ℕ)) where
       at (b.Write p i place key here) is = put_in_order key (Some (record { seq = seqnum x.seq; name = record { path = p; place = place }; here = here })) (writes_in keys xs) is
       at _ is = is
 
-pub objects_are : (last : ℕ) (m : Store) (records : List (Live Body)) → values_upto last m records (writes_in (keys_in m records) records) ≡ objects (suc last) m records
-objects_are last m records =
-    objects_same (suc last) m records (values_upto last m records entries) (values_in_order last m records entries in_order)
-    (λ q. at q (get q entries) refl)
-  where
-    abbrev entries : LastWrites
-    entries = writes_in (keys_in m records) records
+module _ (last : ℕ) (m : Store) (records : List (Live Body)) where
+  abbrev entries : LastWrites
+  entries = writes_in (keys_in m records) records
 
-    in_order : InOrder entries
-    in_order = writes_in_order (keys_in m records) records
+  value_found : (q : List ℕ) (o : Option (Option LastWrite)) → get q entries ≡ o → get q (values_upto last m records entries) ≡ last_value_below q (suc last) 0 m records
+  value_found q None none = no_value last m records q entries none ∙ sym (unwritten q (suc last) m records none)
+  value_found q (Some w) there = value_there last m records q w entries (writes_in_order (keys_in m records) records) there
 
-    at : (q : List ℕ) (o : Option (Option LastWrite)) → get q entries ≡ o → get q (values_upto last m records entries) ≡ last_value_below q (suc last) 0 m records
-    at q None none = no_value last m records q entries none ∙ sym (unwritten q (suc last) m records none)
-    at q (Some w) there = value_there last m records q w entries in_order there
+  pub objects_are : values_upto last m records entries ≡ objects (suc last) m records
+  objects_are =
+      objects_same (suc last) m records (values_upto last m records entries)
+      (values_in_order last m records entries (writes_in_order (keys_in m records) records)) (λ q. value_found q (get q entries) refl)
 
 -- Each entry has its key's last write.
 module _ (q : List ℕ) (keys : List (List ℕ)) (n : ℕ) where
@@ -232,7 +230,7 @@ module _ (q : List ℕ) (keys : List (List ℕ)) (n : ℕ) where
           → option_map write_parts w ≡ option_or (logged_of q x.seq true (logged_write body)) (last_logged q n xs)
       at (b.Write p i place key here) there ih = by (bytes_eq q key) (sym (get-put q key (Some written) (writes_in keys xs)) ∙ there)
         where
-          abbrev written : LastWrite
+          written : LastWrite
           written = record { seq = seqnum x.seq; name = record { path = p; place = place }; here = here }
 
           by :
@@ -245,9 +243,10 @@ module _ (q : List ℕ) (keys : List (List ℕ)) (n : ℕ) where
 are_last_of : (last : ℕ) (records : List (Live Body)) (es : LastWrites) → InOrder es → ((q : List ℕ) (w : Option LastWrite) → get q es ≡ Some w → IsLast last records q w) → AreLast last records es
 are_last_of last records [] is each = tt
 are_last_of last records (e ∷ es) is each =
-    let parts = and_parts (below_all key_order e.0 es) (is_sorted key_order es) is in
-    (each e.0 e.1 (get_first e.0 e es ∙ ap (λ t. cond t (Some e.1) (get e.0 es)) (same_itself e.0)),
-    are_last_of last records es parts.1 (λ q w there. each q w (later q w (not_found e.0 es parts.0) there)))
+    let parts = and_parts (below_all key_order e.0 es) (is_sorted key_order es) is in (
+      each e.0 e.1 (get_first e.0 e es ∙ ap (λ t. cond t (Some e.1) (get e.0 es)) (same_itself e.0)),
+      are_last_of last records es parts.1 (λ q w there. each q w (later q w (not_found e.0 es parts.0) there)),
+    )
   where
     later : (q : List ℕ) (w : Option LastWrite) → get e.0 es ≡ None → get q es ≡ Some w → get q (e ∷ es) ≡ Some w
     later q w none there = at (keys_cases q e.0)

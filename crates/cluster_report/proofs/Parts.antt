@@ -19,7 +19,7 @@ use Rattle.obj_store.specs.StandsFor.{StandsFor}
 use Rattle.step_log.specs.Sound.{live_bodies}
 use Rattle.cluster_report.specs.declared.folds.Folds.{Folds}
 use Rattle.cluster_report.specs.Folded.{LastWrites, Maps, maps_of, folded, writes_in}
-use Rattle.cluster_report.specs.Reported.{CanReport, objects_in, report_in}
+use Rattle.cluster_report.specs.Reported.{CanReport, HasParts, objects_in, report_in}
 use Rattle.cluster_report.specs.Told.{AreLast, CanTell, values_upto}
 use Rattle.cluster_report.proofs.LastValues.{objects_are, are_last}
 use Rattle.cluster_report.proofs.Walks.{falls}
@@ -53,7 +53,7 @@ objects_told book kept keys entries last values long known are told m can =
     ∙ ap (values_upto (length (ordered book)) m records) (are ∙ ap (λ (ks : List (List ℕ)). writes_in ks records) (known m records can.kept.store.stands))
     ∙ objects_are (length (ordered book)) m records
   where
-    abbrev records : List (Live Body)
+    records : List (Live Body)
     records = live_bodies book
 
 pub objects_told_on :
@@ -66,7 +66,7 @@ pub objects_told_on :
 objects_told_on book kept keys entries last (Ok values) long known are told = objects_told book kept keys entries last values long known are told
 objects_told_on book kept keys entries last (Err e) long known are told = tt
 
-pub report_is :
+report_is :
     (fs : List Function) (m : Store) (book : BookState) (r : Report)
     → r.turns ≡ turns fs m.versions (live_bodies book) → r.results ≡ results (live_bodies book) → r.objects ≡ objects_in m book
     → r.queues ≡ queues (live_bodies book) → r.stores ≡ store_values (commits (live_bodies book))
@@ -76,4 +76,31 @@ report_is fs m book r turned resulted told queued stored =
     ∙ ap (λ rs. record r { turns = turns fs m.versions (live_bodies book); results = rs }) resulted
     ∙ ap (λ os. record r { turns = turns fs m.versions (live_bodies book); results = results (live_bodies book); objects = os }) told
     ∙ ap (λ qs. record r { turns = turns fs m.versions (live_bodies book); results = results (live_bodies book); objects = objects_in m book; queues = qs }) queued
-    ∙ ap (λ ss. record { turns = turns fs m.versions (live_bodies book); results = results (live_bodies book); objects = objects_in m book; queues = queues (live_bodies book); stores = ss }) stored
+    ∙ ap (λ ss. report_with fs m book ss) stored
+  where
+    report_with : List Function → Store → BookState → List (List ℕ × Value) → Report
+    report_with fs m book ss = record {
+      turns = turns fs m.versions (live_bodies book);
+      results = results (live_bodies book);
+      objects = objects_in m book;
+      queues = queues (live_bodies book);
+      stores = ss;
+    }
+
+-- the report of the definition
+pub report_told_on :
+    {E : Type 0} (fs : List Function) (book : BookState) (kept : StoreState) (keys : List (List ℕ)) (folds : Folds) (told : List Turn) (last : ℕ)
+    (r : Result Report E)
+    → last ≡ length (ordered book)
+    → ((m : Store) (records : List (Live Body)) → StandsFor kept m records → keys ≡ keys_in m records)
+    → maps_of folds ≡ folded keys (live_bodies book)
+    → ((m : Store) → CanReport book kept m → told ≡ turns fs m.versions (live_bodies book))
+    → IfOk r (HasParts told folds kept last)
+    → IfOk r (λ report. (m : Store) → CanReport book kept m → report ≡ report_in fs m book)
+report_told_on fs book kept keys folds told last (Ok report) long known are turned has = λ m can.
+    report_is fs m book report (has.turns_are ∙ turned m can)
+    (has.results_are ∙ results_are folds keys (live_bodies book) are)
+    (objects_told book kept keys folds.writes.entries last report.objects long known (writes_are folds keys (live_bodies book) are) has.objects_are m can)
+    (has.queues_are ∙ queues_are folds keys (live_bodies book) are)
+    (has.stores_are ∙ stores_are folds keys (live_bodies book) are)
+report_told_on fs book kept keys folds told last (Err e) long known are turned has = tt

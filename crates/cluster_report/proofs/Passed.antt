@@ -90,7 +90,7 @@ same_record :
     (end : ℕ) (x y : Live Body) (xs : List (Live Body)) → FallBelow end xs → IsAmong x xs → IsAmong y xs → x.seq ≡ y.seq → x ≡ y
 same_record end x y xs fall in_x in_y same =
     let both : Some x ≡ Some y =
-        sym (recorded_among end x xs fall in_x) ∙ ap (λ (seq : ℕ). record_at seq xs) same ∙ recorded_among end y xs fall in_y in
+    sym (recorded_among end x xs fall in_x) ∙ ap (λ (seq : ℕ). record_at seq xs) same ∙ recorded_among end y xs fall in_y in
     cc
 
 module _ (fs : List Function) (book : BookState) (kept : StoreState) where
@@ -129,8 +129,8 @@ module _ (fs : List Function) (book : BookState) (kept : StoreState) where
     absent : (y : Live Body) → IsAmong y (live_bodies book) → y.seq ≡ suc n → ⊥
     absent y among is =
         let there : Some y.holds ≡ None =
-            sym (ap (λ (o : Option (Live Body)). option_map (λ (x : Live Body). x.holds) o) (sym (ap (λ (k : ℕ). record_at k (live_bodies book)) is) ∙ recorded_among end y (live_bodies book) (falls book) among))
-            ∙ none in
+        sym (ap (λ (o : Option (Live Body)). option_map (λ (x : Live Body). x.holds) o) (sym (ap (λ (k : ℕ). record_at k (live_bodies book)) is) ∙ recorded_among end y (live_bodies book) (falls book) among))
+        ∙ none in
         cc
 
     pass_none : Passed n walk
