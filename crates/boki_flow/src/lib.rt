@@ -11,6 +11,7 @@ mod caches;
 mod cases;
 mod init;
 mod missing;
+mod taking;
 
 pub use attempt::Attempt;
 pub use boki_types::{Life, Miss, StepLine};

@@ -1,2 +1,0 @@
-use Rattle.boki_flow.proofs.Adopted.{cut_keeps}
-use Rattle.boki_flow.proofs.adopting.adopt_commit.Goals as goal

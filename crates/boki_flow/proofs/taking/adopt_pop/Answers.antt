@@ -1,0 +1,2 @@
+use Rattle.boki_flow.proofs.Adopted.{cut_keeps}
+use Rattle.boki_flow.proofs.taking.adopt_pop.Goals as goal
