@@ -1,5 +1,6 @@
 -- An attempt adopts the record at its place.
-use Rattle.std.proofs.Common.{◌≡◌, ◌∙◌, ◌⊎◌, inl, inr, ℕ, suc, ◌<◌, ◌≤◌, Bool, true, false, cond, ltb, List, [], ◌∷◌, ◌+◌, ◌^◌, length, Option, Some, None, option_map, refl, sym, ap, subst, arith}
+use Rattle.std.proofs.Common.{◌≡◌, ◌∙◌, ◌⊎◌, inl, inr, ℕ, suc, ◌<◌, ◌≤◌, Bool, true, false, cond, ltb, List, [], ◌∷◌, ◌+◌, ◌^◌, ◌++◌, ◌&&◌, length, Option, Some, None, option_map, Result, Ok, Err, IfOk, OnErr, refl, sym, ap, subst, arith}
+use Rattle.std.proofs.lemmas.Bool.Decides.{nat_tests}
 use Rattle.std.specs.Prelude.{zip}
 use Rattle.std.specs.Option.{option_map_or, option_and_then}
 use Rattle.lb_base.specs.declared.value.Outcome.{Outcome}
@@ -25,7 +26,7 @@ use Rattle.boki_model.specs.Modes.{result_of}
 use Rattle.boki_model.specs.Reads.{nth}
 use Rattle.boki_model.specs.Writes.{Store, read_fenced, after_read_fenced, raise_fences}
 use Rattle.boki_machine.specs.Attempt.{Attempt, Move, moves, adopts, answered_with, next_index}
-use Rattle.boki_machine.specs.Step.{records_below, is_committed, fenced_value, read_all, stop_gone, adopts_answer, adopts_marker, adopts_join, adopts_operation, continue_step, unless_waiting, script_step, attempt_ask, answers_to, adopt_or}
+use Rattle.boki_machine.specs.Step.{seqnum, records_below, is_committed, fenced_value, read_all, stop_gone, adopts_answer, adopts_marker, adopts_join, adopts_operation, continue_step, unless_waiting, script_step, attempt_ask, answers_to, adopt_or}
 use Rattle.machine_laws.specs.Adopts.{AdoptsAsked, RecordsOperation, adopted_answer}
 use Rattle.machine_laws.specs.Children.{HasPath}
 use Rattle.machine_laws.specs.Ends.{finish_in, last_tagged}
@@ -43,15 +44,15 @@ use Rattle.attempt_state.specs.declared.progress.Progress.{Progress}
 use Rattle.attempt_state.specs.declared.state.AttemptState.{AttemptState}
 use Rattle.attempt_state.specs.Attempts.{AttemptStandsFor, FrameTakes, HasScript, SameScript}
 use Rattle.attempt_state.specs.Progresses.{progress_of, adopted_progress}
-use Rattle.attempt_store.specs.Moved.{EitherKept, FrameAsks, MovesStore, after_marker}
+use Rattle.attempt_store.specs.Moved.{CanReadAt, EitherKept, FrameAsks, MovesStore, after_marker}
 use Rattle.flow_parts.specs.declared.parts.Parts.{Parts}
 use Rattle.flow_parts.specs.Parts.{PartsStandFor, IsCutShort, HasEngineParts, KeepsParts}
 use Rattle.boki_flow.specs.Flow.{FlowStandsFor, IsMoved}
-use Rattle.boki_flow.specs.Arms.{FindsAnswer, IsAdopting, AdoptsBody, IsTaking, IsTakingCommit, TakesAnswer, TakesPop, TakesCommit, MovesBy, CutShortBy, next_move, adopting_move, joined_move, popped_move, begun_move, committed_move}
+use Rattle.boki_flow.specs.Arms.{FindsAnswer, IsAdopting, AdoptsBody, IsTaking, IsTakingCommit, TakesAnswer, TakesPop, TakesCommit, AsksMarked, IsAnswerTaken, CanFlowIf, MovesBy, CutShortBy, marked_move, group_move, next_move, adopting_move, joined_move, popped_move, begun_move, committed_move}
 use Rattle.flow_parts.proofs.Appended.{stored_stands}
 use Rattle.boki_flow.proofs.Moves.{store_moves}
 use Rattle.boki_flow.proofs.Leading.{Leads}
-use Rattle.boki_flow.proofs.Standing.{engine_is, has_engine, few, frame_asks, frame_takes}
+use Rattle.boki_flow.proofs.Standing.{engine_is, has_engine, few, room, frame_asks, frame_takes, weaker_ok, weaker_err}
 use Rattle.boki_flow.proofs.StepCases.{Found, found_there, found_none, stays}
 
 -- What follows where no record is of the operation isn't looked at.
@@ -119,9 +120,7 @@ cut_keeps P move fs parts new kept keeps setup store a stands p =
 
 -- what it says that an answer was taken
 abbrev pub AnswerTaken : List Function → Progress → Answer → AttemptState → AttemptState → Type 0
-AnswerTaken fs changed answer before after =
-    (a t : Attempt) → AttemptStandsFor fs a before → HasScript a → SameScript a t → HasScript t → changed ≡ progress_of t
-    → AttemptStandsFor fs (answered_with t answer) after
+AnswerTaken fs changed answer before after = IsAnswerTaken fs changed answer before after
 
 -- An answer is adopted, perhaps with another open transaction.
 module _ (fs : List Function) (parts new : Parts) (kept after : AttemptState) (changed : Progress) (answer : Answer) (l told : StepLine)
@@ -143,6 +142,13 @@ module _ (fs : List Function) (parts new : Parts) (kept after : AttemptState) (c
 
   pub answers_so : changed ≡ progress_of (adopts a seq) → IsMoved setup fs a.engine (adopts_answer a store seq answer l) parts new after told
   answers_so is = answers_with a.transaction is
+
+-- what stands in two that are the same
+some_same : {X : Type 0} (x y : X) → Some x ≡ Some y → x ≡ y
+some_same x y e = cc
+
+step_path : (p q : List ℕ) (i j : ℕ) → Some (p, i) ≡ Some (q, j) → p ≡ q
+step_path p q i j e = cc
 
 -- The record at its place says this, and the attempt's state behind it is known.
 module _ (fs : List Function) (parts : Parts) (kept : AttemptState) (seq : Seqnum) (body : Body) where
@@ -187,7 +193,7 @@ module _ (fs : List Function) (parts : Parts) (kept : AttemptState) (seq : Seqnu
             ∙ is
 
         same : adopting.adopts.answer ≡ answer
-        same = let some = there in cc
+        same = some_same adopting.adopts.answer answer there
 
     taking : (op : Op) → adopting.op ≡ op → IsTaking fs (k.Op op) seq.0 changed a
     taking op is = record { script = adopting.script; asked = adopting.asks ∙ ap (λ (x : Op). Some (k.Op x)) is; changed_is = changed_is a stands.attempt }
@@ -204,7 +210,7 @@ module _ (fs : List Function) (parts : Parts) (kept : AttemptState) (seq : Seqnu
     needs = λ setup store a stands adopting. taking setup store a stands adopting (o.Join ordinal) (records_is setup store a stands adopting (b.Join p i ordinal) is).asks;
     same = λ setup store a stands adopting.
         let step = step_is setup store a stands adopting (b.Join p i ordinal) is in
-        let path_is : a.path ≡ p = cc in
+        let path_is = step_path a.path p (next_index a.answers) i (sym step) in
         ap (λ (path : List ℕ). adopts_join a store seq.0 (child path ordinal) (result_of (child path ordinal) (view parts.book a.engine))) path_is
         ∙ moves_same setup store a stands adopting (b.Join p i ordinal) is;
   })
@@ -247,13 +253,16 @@ module _ (fs : List Function) (parts : Parts) (kept : AttemptState) (seq : Seqnu
   })
 
   -- It is answered by the record alone.
-  pub answers_alone : (answer : Answer) (l told : StepLine) (after : AttemptState) (at : Progress) (said : Body) → body ≡ said → at ≡ changed → told ≡ l → AnswerTaken fs at answer kept after
-      → ((store : Store) (a : Attempt) → adopts_operation a store (view parts.book a.engine) seq.0 said (moves a store line.WaitsRecord) ≡ adopts_answer a store seq.0 answer l)
-      → MovesBy (AdoptsBody fs parts seq.0 body) (adopting_move parts seq.0 body) fs parts parts kept after told
-  answers_alone answer l told after at said is e told_is taken so setup store a stands adopting =
+  pub answers_alone : (answer : Answer) (l : Seqnum → StepLine) (after : AttemptState) (at : Progress) (said : Body) → body ≡ said → at ≡ changed
+      → ((store : Store) (a : Attempt) → adopts_operation a store (view parts.book a.engine) seq.0 said (moves a store line.WaitsRecord) ≡ adopts_answer a store seq.0 answer (l (seqnum seq.0)))
+      → {E : Type 0} (result : Result StepLine E) → IfOk result (λ told. told ≡ l at.cursor) → IfOk result (λ told. AnswerTaken fs at answer kept after)
+      → IfOk result (MovesBy (AdoptsBody fs parts seq.0 body) (adopting_move parts seq.0 body) fs parts parts kept after)
+  answers_alone answer l after at said is e so (Ok told) told_is taken = λ setup store a stands adopting.
       subst (λ (move : Move). IsMoved setup fs a.engine move parts parts after told)
       (sym (so store a) ∙ moves_same setup store a stands adopting said is)
-      (answers_so fs parts parts kept after at answer l told (keeps_parts parts) told_is taken setup store a stands adopting.script seq.0 (e ∙ changed_is a stands.attempt))
+      (answers_so fs parts parts kept after at answer (l (seqnum seq.0)) told (keeps_parts parts) (told_is ∙ ap (λ (p : Progress). l p.cursor) e) taken
+      setup store a stands adopting.script seq.0 (e ∙ changed_is a stands.attempt))
+  answers_alone answer l after at said is e so (Err w) told_is taken = tt
 
   -- It is of no operation.
   pub adopts_other : ((fs : List Function) (store : Store) (seen : List (Live Body)) (a : Attempt) (op : Op) → RecordsOperation fs store seen a body op → ⊥)
@@ -261,44 +270,141 @@ module _ (fs : List Function) (parts : Parts) (kept : AttemptState) (seq : Seqnu
   adopts_other none move told setup store a stands adopting =
       absurd (none fs store (view parts.book a.engine) a adopting.op (records_is setup store a stands adopting body refl))
 
-  -- A marker.
-  pub marks : (keys : List (List ℕ)) (answer : Store → Attempt → Answer) (l : Store → Attempt → StepLine) (after : AttemptState) (told : StepLine) (stored : StoreState) (said : Body) → body ≡ said
-      → ((store : Store) (a : Attempt) → adopts_operation a store (view parts.book a.engine) seq.0 said (moves a store line.WaitsRecord) ≡ adopts_marker a store seq.0 keys (answer store a) (l store a))
-      → ((m : Store) (a : Attempt) → AreKept parts.book parts.store m → AttemptStandsFor fs a kept → HasScript a → seq.0 ≤ position parts.book a.engine
-      → MovesStore fs (live_bodies parts.book) stored (adopts_marker a m seq.0 keys (answer m a) (l m a)) after told)
-      → MovesBy (AdoptsBody fs parts seq.0 body) (adopting_move parts seq.0 body) fs parts (record parts { store = stored }) kept after told
-  marks keys answer l after told stored said is so did setup store a stands adopting =
-      subst (λ (move : Move). IsMoved setup fs a.engine move parts (record parts { store = stored }) after told)
-      (sym (so store a) ∙ moves_same setup store a stands adopting said is)
-      (store_moves setup fs a.engine store parts stands.parts (adopts_marker a store seq.0 keys (answer store a) (l store a)) after told stored
-      (sends_none (ltb seq.0 store.floor) (stop_gone a store) (adopts_answer a (after_read_fenced keys seq.0 store) seq.0 (answer store a) (l store a)) refl refl)
-      (did store a stands.parts.kept stands.attempt adopting.script (within setup store a stands adopting)))
+  -- One of these markers is asked.
+  abbrev Marks : Op → (Parts → ℕ → Setup → Store → Attempt → Move) → Type 0
+  Marks op move = Leads (AdoptsBody fs parts seq.0 body) (AsksMarked fs parts op seq.0) (adopting_move parts seq.0 body) (move parts seq.0) fs parts kept
+
+  marks_by : (op : Op) (said : Body) (move : Parts → ℕ → Setup → Store → Attempt → Move) → body ≡ said
+      → ((setup : Setup) (store : Store) (a : Attempt) → FlowStandsFor setup fs store a parts kept → (adopting : IsAdopting fs store parts seq.0 body a) → adopting.op ≡ op)
+      → ((setup : Setup) (store : Store) (a : Attempt) → move parts seq.0 setup store a ≡ adopts_operation a store (view parts.book a.engine) seq.0 said (moves a store line.WaitsRecord))
+      → Marks op move
+  marks_by op said move is asks so = record {
+    needs = λ setup store a stands adopting. (
+      record { script = adopting.script; asks = adopting.asks ∙ ap (λ (x : Op). Some (k.Op x)) (asks setup store a stands adopting) },
+      within setup store a stands adopting,
+    );
+    same = λ setup store a stands adopting. so setup store a ∙ moves_same setup store a stands adopting said is;
+  }
+
+  pub marks_read : (p : List ℕ) (i : ℕ) (key : List ℕ) → body ≡ b.Read p i key → Marks (o.Read key) (λ parts seq. marked_move parts seq key)
+  marks_read p i key is = marks_by (o.Read key) (b.Read p i key) (λ parts seq. marked_move parts seq key) is
+      (λ setup store a stands adopting. records_is setup store a stands adopting (b.Read p i key) is) (λ setup store a. refl)
+
+  pub marks_group : (p : List ℕ) (i : ℕ) (keys : List (List ℕ)) → body ≡ b.ReadGroup p i keys → Marks (o.ReadGroup keys) (λ parts seq. group_move parts seq keys)
+  marks_group p i keys is = marks_by (o.ReadGroup keys) (b.ReadGroup p i keys) (λ parts seq. group_move parts seq keys) is
+      (λ setup store a stands adopting. records_is setup store a stands adopting (b.ReadGroup p i keys) is) (λ setup store a. refl)
+
+  -- What the calls of its arms need, of an attempt that adopts it.
+  module _ (can : CanFlowIf (AdoptsBody fs parts seq.0 body) fs parts kept) where
+    pub adopting_few : length fs < 2 ^ 32
+    adopting_few = few can.setup fs can.store can.attempt parts kept can.stands
+
+    pub adopting_room : (at : Progress) → at ≡ changed → at.answered + 1 < 2 ^ 64
+    adopting_room at e =
+        let is : at.answered ≡ kept.progress.answered = ap (λ (p : Progress). p.answered) e in
+        let bound = room can.setup fs can.store can.attempt parts kept can.stands in
+        omega arith
+
+    pub adopting_takes : (answer : Answer) (said : Body) → body ≡ said
+        → ((store : Store) (seen : List (Live Body)) → adopted_answer store seen seq.0 said ≡ Some answer) → FrameTakes kept.frame answer
+    adopting_takes answer said is so =
+        takes_is can.setup can.store can.attempt can.stands can.holds answer
+        (ap (adopted_answer can.store (view parts.book can.attempt.engine) seq.0) is ∙ so can.store (view parts.book can.attempt.engine))
+
+    adopting_path : (said : Body) (p : List ℕ) (i : ℕ) → body ≡ said → step_of said ≡ Some (p, i) → can.attempt.path ≡ p
+    adopting_path said p i is there =
+        step_path can.attempt.path p (next_index can.attempt.answers) i (sym (step_is can.setup can.store can.attempt can.stands can.holds said is) ∙ there)
+
+    adopting_child : (op : Op) (said : Body) (p : List ℕ) (i : ℕ) → body ≡ said → step_of said ≡ Some (p, i) → can.holds.op ≡ op → HasPath p op
+    adopting_child op said p i is there asks =
+        subst (λ (path : List ℕ). HasPath path op) (adopting_path said p i is there)
+        (subst (HasPath can.attempt.path) asks (can.stands.can.asks.children can.holds.op can.holds.asks))
+
+    pub spawn_child : (p : List ℕ) (i ordinal : ℕ) (name : List ℕ) (args : List Value) → body ≡ b.Spawn p i ordinal name args
+        → child_path p ordinal ≡ Some (child p ordinal)
+    spawn_child p i ordinal name args is =
+        let asked = records_is can.setup can.store can.attempt can.stands can.holds (b.Spawn p i ordinal name args) is in
+        adopting_child (o.Spawn ordinal asked.function args) (b.Spawn p i ordinal name args) p i is refl asked.asks
+
+    pub join_child : (p : List ℕ) (i ordinal : ℕ) → body ≡ b.Join p i ordinal → child_path p ordinal ≡ Some (child p ordinal)
+    join_child p i ordinal is =
+        let asked = records_is can.setup can.store can.attempt can.stands can.holds (b.Join p i ordinal) is in
+        adopting_child (o.Join ordinal) (b.Join p i ordinal) p i is refl asked.asks
+
+-- a record of no operation
+pub no_operation : (body : Body) → ((p : List ℕ) (i : ℕ) (key : List ℕ) → body ≡ b.Read p i key → ⊥) → ((p : List ℕ) (i : ℕ) (keys : List (List ℕ)) → body ≡ b.ReadGroup p i keys → ⊥)
+    → ((p : List ℕ) (i place : ℕ) (key : List ℕ) (here : Option Value) → body ≡ b.Write p i place key here → ⊥)
+    → ((p : List ℕ) (i ordinal : ℕ) (name : List ℕ) (args : List Value) → body ≡ b.Spawn p i ordinal name args → ⊥)
+    → ((p : List ℕ) (i ordinal : ℕ) → body ≡ b.Join p i ordinal → ⊥) → ((p : List ℕ) (i : ℕ) (queue : List ℕ) (value : Value) → body ≡ b.Push p i queue value → ⊥)
+    → ((p : List ℕ) (i : ℕ) (queue : List ℕ) → body ≡ b.Pop p i queue → ⊥) → ((p : List ℕ) (i : ℕ) (names : List (List ℕ)) → body ≡ b.TxnBegin p i names → ⊥)
+    → ((p : List ℕ) (i begin : ℕ) (names : List (List ℕ)) (writes : List (List ℕ × Value)) → body ≡ b.TxnCommit p i begin names writes → ⊥)
+    → (fs : List Function) (store : Store) (seen : List (Live Body)) (a : Attempt) (op : Op) → RecordsOperation fs store seen a body op → ⊥
+no_operation (b.Read p i key) one group write spawn join push pop begin commit fs store view a op is = one p i key refl
+no_operation (b.ReadGroup p i keys) one group write spawn join push pop begin commit fs store view a op is = group p i keys refl
+no_operation (b.Write p i place key here) one group write spawn join push pop begin commit fs store view a op is = write p i place key here refl
+no_operation (b.Spawn p i ordinal name args) one group write spawn join push pop begin commit fs store view a op is = spawn p i ordinal name args refl
+no_operation (b.Join p i ordinal) one group write spawn join push pop begin commit fs store view a op is = join p i ordinal refl
+no_operation (b.Push p i queue value) one group write spawn join push pop begin commit fs store view a op is = push p i queue value refl
+no_operation (b.Pop p i queue) one group write spawn join push pop begin commit fs store view a op is = pop p i queue refl
+no_operation (b.TxnBegin p i names) one group write spawn join push pop begin commit fs store view a op is = begin p i names refl
+no_operation (b.TxnCommit p i start names writes) one group write spawn join push pop begin commit fs store view a op is = commit p i start names writes refl
+no_operation _ one group write spawn join push pop begin commit fs store view a op is = is
+
+-- the ordinal of a child's path is small
+pub child_small : (path child : List ℕ) (ordinal : ℕ) → child_path path ordinal ≡ Some child → ordinal < 4096
+child_small path child ordinal is = at (ltb 0 ordinal) (ltb ordinal 4096) (ltb (length path) 4) refl is
+  where
+    at : (first second third : Bool) → ltb ordinal 4096 ≡ second → cond ((first && second) && third) (Some (path ++ ordinal ∷ [])) None ≡ Some child → ordinal < 4096
+    at first true third e is = grind (arith, nat_tests)
+    at true false third e is = absurd (let z : ⊥ = cc in z)
+    at false false third e is = absurd (let z : ⊥ = cc in z)
+
+-- What the calls of markers need.
+module _ (fs : List Function) (parts : Parts) (kept : AttemptState) (seq : ℕ) (op : Op) (can : CanFlowIf (AsksMarked fs parts op seq) fs parts kept) where
+  pub marker_asks : FrameAsks kept.frame (k.Op op)
+  marker_asks = frame_asks can.setup fs can.store can.attempt parts kept can.stands can.holds.0.script (k.Op op) can.holds.0.asks
+
+  pub marker_reads : CanReadAt parts.book parts.store kept.progress.engine seq
+  marker_reads = record {
+    store = can.store;
+    are = can.stands.parts.kept;
+    covered = subst (λ (engine : ℕ). seq ≤ position parts.book engine) (sym (engine_is can.setup fs can.store can.attempt parts kept can.stands)) can.holds.1;
+  }
+
+-- The markers' moves, by what their calls say.
+module _ (fs : List Function) (parts : Parts) (kept after : AttemptState) (stored : StoreState) (seq : ℕ) (op : Op) (keys : List (List ℕ))
+    (answer : Store → Attempt → Answer) (l : Store → Attempt → StepLine) {E : Type 0} (result : Result StepLine E) where
+  abbrev marker_move : Setup → Store → Attempt → Move
+  marker_move setup store a = adopts_marker a store seq keys (answer store a) (l store a)
+
+  pub marker_moves : IfOk result (λ told. (m : Store) (a : Attempt) → AreKept parts.book parts.store m → AttemptStandsFor fs a kept → HasScript a → seq ≤ position parts.book a.engine
+      → MovesStore fs (live_bodies parts.book) stored (adopts_marker a m seq keys (answer m a) (l m a)) after told)
+      → IfOk result (MovesBy (AsksMarked fs parts op seq) marker_move fs parts (record parts { store = stored }) kept after)
+  marker_moves did = weaker_ok result _ _ did (λ told moved setup store a stands asks.
+      store_moves setup fs a.engine store parts stands.parts (marker_move setup store a) after told stored
+      (sends_none (ltb seq store.floor) (stop_gone a store) (adopts_answer a (after_read_fenced keys seq store) seq (answer store a) (l store a)) refl refl)
+      (moved store a stands.parts.kept stands.attempt asks.0.script asks.1))
     where
       sends_none : (low : Bool) (first second : Move) → first.sends ≡ None → second.sends ≡ None → (cond low first second).sends ≡ None
       sends_none true first second e f = e
       sends_none false first second e f = f
 
-  pub marks_cut : (keys : List (List ℕ)) (answer : Store → Attempt → Answer) (l : Store → Attempt → StepLine) (stored : StoreState) (said : Body) → body ≡ said
-      → ((store : Store) (a : Attempt) → adopts_operation a store (view parts.book a.engine) seq.0 said (moves a store line.WaitsRecord) ≡ adopts_marker a store seq.0 keys (answer store a) (l store a))
-      → ((m : Store) (a : Attempt) → AreKept parts.book parts.store m → AttemptStandsFor fs a kept → seq.0 ≤ position parts.book a.engine
-      → EitherKept stored m (after_marker seq.0 keys m) (live_bodies parts.book))
-      → CutShortBy (AdoptsBody fs parts seq.0 body) (adopting_move parts seq.0 body) fs parts (record parts { store = stored }) kept
-  marks_cut keys answer l stored said is so cut setup store a stands adopting =
-      record { book = refl; parts = by (cut store a stands.parts.kept stands.attempt (within setup store a stands adopting)) }
+  pub marker_cut : OnErr result ((m : Store) (a : Attempt) → AreKept parts.book parts.store m → AttemptStandsFor fs a kept → seq ≤ position parts.book a.engine
+      → EitherKept stored m (after_marker seq keys m) (live_bodies parts.book))
+      → OnErr result (CutShortBy (AsksMarked fs parts op seq) marker_move fs parts (record parts { store = stored }) kept)
+  marker_cut did = weaker_err result did (λ cut setup store a stands asks.
+      record { book = refl; parts = by setup store a stands (cut store a stands.parts.kept stands.attempt asks.1) })
     where
-      stores_by : (low : Bool) (second : Move) → cond low store second.store ≡ (cond low (stop_gone a store) second).store
-      stores_by true second = refl
-      stores_by false second = refl
+      stores_by : (store : Store) (a : Attempt) (low : Bool) (second : Move) → cond low store second.store ≡ (cond low (stop_gone a store) second).store
+      stores_by store a true second = refl
+      stores_by store a false second = refl
 
-      after_is : after_marker seq.0 keys store ≡ (adopting_move parts seq.0 body setup store a).store
-      after_is =
-          stores_by (ltb seq.0 store.floor) (adopts_answer a (after_read_fenced keys seq.0 store) seq.0 (answer store a) (l store a))
-          ∙ ap (λ (move : Move). move.store) (sym (so store a) ∙ moves_same setup store a stands adopting said is)
-
-      by : EitherKept stored store (after_marker seq.0 keys store) (live_bodies parts.book)
-          → PartsStandFor setup store (record parts { store = stored }) ⊎ PartsStandFor setup (adopting_move parts seq.0 body setup store a).store (record parts { store = stored })
-      by (inl before) = inl (stored_stands setup store parts stands.parts stored store before)
-      by (inr behind) = inr (subst (λ (m : Store). PartsStandFor setup m (record parts { store = stored })) after_is (stored_stands setup store parts stands.parts stored (after_marker seq.0 keys store) behind))
+      by : (setup : Setup) (store : Store) (a : Attempt) → FlowStandsFor setup fs store a parts kept → EitherKept stored store (after_marker seq keys store) (live_bodies parts.book)
+          → PartsStandFor setup store (record parts { store = stored }) ⊎ PartsStandFor setup (marker_move setup store a).store (record parts { store = stored })
+      by setup store a stands (inl before) = inl (stored_stands setup store parts stands.parts stored store before)
+      by setup store a stands (inr behind) = inr (subst (λ (m : Store). PartsStandFor setup m (record parts { store = stored }))
+          (stores_by store a (ltb seq store.floor) (adopts_answer a (after_read_fenced keys seq store) seq (answer store a) (l store a)))
+          (stored_stands setup store parts stands.parts stored (after_marker seq keys store) behind))
 
 -- What a call needs of an attempt that takes an answer.
 module _ (fs : List Function) (parts : Parts) (kept : AttemptState) (changed : Progress) where

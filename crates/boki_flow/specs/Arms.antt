@@ -41,6 +41,12 @@ use Rattle.attempt_log.specs.Moves.{asked_move}
 use Rattle.flow_parts.specs.declared.parts.Parts.{Parts}
 use Rattle.flow_parts.specs.Parts.{IsCutShort}
 use Rattle.boki_flow.specs.Flow.{FlowStandsFor, IsMoved, IsMissed, move_of, missed_of}
+use Rattle.std.specs.Prelude.{[], ◌∷◌}
+use Rattle.boki_types.specs.declared.operation.Answer.{Answer}
+use Rattle.boki_model.specs.Writes.{read_fenced}
+use Rattle.boki_machine.specs.Attempt.{answered_with}
+use Rattle.boki_machine.specs.Step.{adopts_marker, fenced_value, read_all}
+use Rattle.attempt_state.specs.Attempts.{AttemptStandsFor, SameScript}
 
 -- there is a store and an attempt for which they stand and of which this holds
 pub record CanFlowIf (P : Setup → Store → Attempt → Type 0) (fs : List Function) (parts : Parts) (kept : AttemptState) : Type 0 where
@@ -280,3 +286,23 @@ write_move parts key v setup store a = writes setup a store (next_sent parts.boo
 abbrev pub logged_move : Parts → List ℕ → Value → Setup → Store → Attempt → Move
 logged_move parts key v setup store a =
     logged_write_step (is_inline setup a v) a.stored a store (next_sent parts.book a.engine) key v
+
+-- A marker is adopted: the script asks its read, and the engine sees its seqnum. Its moves are of one object and of several.
+abbrev pub AsksMarked : List Function → Parts → Op → ℕ → Setup → Store → Attempt → Type 0
+AsksMarked fs parts op seq setup store a = IsAsking fs (ask.Op op) a × (seq ≤ position parts.book a.engine)
+
+abbrev pub marked_move : Parts → ℕ → List ℕ → Setup → Store → Attempt → Move
+marked_move parts seq key setup store a =
+    let v = fenced_value (read_fenced key seq store (view parts.book a.engine)) in
+    adopts_marker a store seq (key ∷ []) (ans.Value v) (line.AdoptRead (seqnum seq) key v)
+
+abbrev pub group_move : Parts → ℕ → List (List ℕ) → Setup → Store → Attempt → Move
+group_move parts seq keys setup store a =
+    let vs = read_all (λ key. read_fenced key seq store (view parts.book a.engine)) keys in
+    adopts_marker a store seq keys (ans.Values vs) (line.AdoptReadAll (seqnum seq) (zip keys vs))
+
+-- The attempt that is kept has an answer more, and stands for each one that was where `changed` says.
+abbrev pub IsAnswerTaken : List Function → Progress → Answer → AttemptState → AttemptState → Type 0
+IsAnswerTaken fs changed answer before after =
+    (a b : Attempt) → AttemptStandsFor fs a before → HasScript a → SameScript a b → HasScript b → changed ≡ progress_of b
+    → AttemptStandsFor fs (answered_with b answer) after

@@ -5,6 +5,7 @@
 #![tactic(auto)]
 
 mod adopting;
+mod answering;
 mod asking;
 mod attempt;
 mod caches;

@@ -1,4 +1,4 @@
-//! What an attempt takes as it adopts: the result of a child, the front of a queue, the values of a begin, and whether a commit succeeded.
+//! An attempt adopts a join, a pop, a begin or a commit: what it takes is by what its engine sees or keeps.
 ghost use Rattle.std.specs.Prelude.{◌≡◌, OnErr, IfOk};
 ghost use Rattle.boki_types.specs.declared.operation.Ask.TheVariants as k;
 ghost use Rattle.boki_types.specs.declared.operation.Op.TheVariants as o;

@@ -1,8 +1,14 @@
 use Rattle.std.proofs.Common.{◌∙◌, sym}
 use Rattle.boki_flow.specs.Arms.{FindsAnswer, AdoptsBody, next_move, adopting_move}
 use Rattle.boki_flow.proofs.Leading.{can_if, leads_moves, leads_cut}
+use Rattle.boki_flow.proofs.Standing.{has_engine}
+use Rattle.boki_flow.proofs.StepCases.{cut_before}
 use Rattle.boki_flow.proofs.Adopted.{adopts_found, adopts_none}
 use Rattle.boki_flow.proofs.adopting.adopt.Goals as goal
+
+pub at-requires : goal.at-requires
+at-requires c =
+    let r = c.requires in has_engine r.setup c.args.program.now.functions r.store r.attempt c.args.parts.now c.args.state.now r.stands
 
 pub adopt_body-line-requires : goal.adopt_body-line-requires
 adopt_body-line-requires c =
