@@ -14,6 +14,7 @@ use Rattle.boki_types.specs.declared.line.Miss.TheVariants as what
 use Rattle.boki_types.specs.declared.log.Call.{Call}
 use Rattle.boki_types.specs.declared.operation.Ask.{Ask}
 use Rattle.boki_types.specs.declared.operation.Ask.TheVariants as k
+use Rattle.boki_types.specs.declared.operation.Op.{Op}
 use Rattle.boki_types.specs.declared.operation.Op.TheVariants as o
 use Rattle.boki_types.specs.declared.plan.Setup.{Setup}
 use Rattle.boki_types.specs.declared.program.Function.{Function}
@@ -48,7 +49,7 @@ use Rattle.attempt_state.specs.Deciding.{writes_freely}
 use Rattle.flow_parts.specs.declared.parts.Parts.{Parts}
 use Rattle.flow_parts.specs.Parts.{PartsStandFor, IsCutShort}
 use Rattle.boki_flow.specs.Flow.{FlowStandsFor, IsMissed}
-use Rattle.boki_flow.specs.Arms.{Always, HasBegun, FindsAnswer, ScriptAsks, SeesSeqnum, MissesBy, MissCutShortBy, step_missed, next_missed, asked_missed}
+use Rattle.boki_flow.specs.Arms.{Always, Runs, HasBegun, FindsAnswer, ScriptAsks, SeesSeqnum, MissesBy, MissCutShortBy, step_missed, running_missed, unended_missed, next_missed, asked_missed}
 use Rattle.flow_parts.proofs.Appended.{stored_stands}
 use Rattle.boki_flow.proofs.Leading.{Leads}
 use Rattle.boki_flow.proofs.Standing.{asks_is, no_frame}
@@ -58,20 +59,6 @@ use Rattle.boki_flow.proofs.StepCases.{Found, runs_by, none_by, life_is, result_
 pub misses_none : (setup : Setup) (fs : List Function) (store : Store) (a : Attempt) (parts : Parts) (kept : AttemptState)
     → FlowStandsFor setup fs store a parts kept → IsMissed setup (nothing_missed store) parts parts what.Nothing
 misses_none setup fs store a parts kept stands = record { what_is = refl; parts = stands.parts; book = refl }
-
--- either of two, where the second was asked first
-pub by_stored : (inline stored value : Bool) → stored ≡ true → value ≡ true → (inline || stored) ≡ value
-by_stored true stored value e is = sym is
-by_stored false stored value e is = e ∙ sym is
-
-pub by_inline : (inline stored value : Bool) → stored ≡ false → value ≡ inline → (inline || stored) ≡ value
-by_inline true stored value e is = sym is
-by_inline false stored value e is = e ∙ sym is
-
--- what isn't there
-pub none_is : {X : Type 0} (o : Option X) → ((x : X) → o ≡ Some x → ⊥) → o ≡ None
-none_is None isnt = refl
-none_is (Some x) isnt = absurd (isnt x refl)
 
 pub miss_cut_before : (P : List Function → Setup → Store → Attempt → Type 0) (missed : List Function → Setup → Store → Attempt → Missed) (parts : Parts) (kept : AttemptState)
     → MissCutShortBy P missed parts parts kept
@@ -105,87 +92,85 @@ module _ (parts : Parts) (kept : AttemptState) where
       (idles_by setup fs a store (view parts.book a.engine) a.life (life_is fs parts kept a stands.attempt ∙ e))
       (record { what_is = refl; parts = stands.parts; book = refl })
 
-  module _ (runs : is_running kept.progress.life ≡ true) where
-    life_runs : (fs : List Function) (a : Attempt) → AttemptStandsFor fs a kept → a.life ≡ l.Running
-    life_runs fs a stands = runs_by a.life (life_is fs parts kept a stands ∙ runs)
+  -- It runs.
+  pub misses_run : is_running kept.progress.life ≡ true → (fs : List Function) → Leads Always Runs (step_missed fs parts) (running_missed fs parts) fs parts kept
+  misses_run e fs = record {
+    needs = λ setup store a stands p. runs_by a.life (life_is fs parts kept a stands.attempt ∙ e);
+    same = λ setup store a stands p.
+        sym (ap (misses_if setup fs a store (view parts.book a.engine)) (runs_by a.life (life_is fs parts kept a stands.attempt ∙ e)));
+  }
 
-    abbrev Ended : Option Outcome → Type 0
-    Ended outcome = outcome ≡ finish_in kept.progress.path (last_tagged (step_tag kept.progress.path) (view parts.book kept.progress.engine))
+  abbrev Ended : Option Outcome → Type 0
+  Ended outcome = outcome ≡ finish_in kept.progress.path (last_tagged (step_tag kept.progress.path) (view parts.book kept.progress.engine))
 
-    -- by the end of its invocation
-    by_end : (fs : List Function) (setup : Setup) (store : Store) (a : Attempt) (outcome : Option Outcome) → FlowStandsFor setup fs store a parts kept → Ended outcome
-        → step_missed fs parts setup store a ≡ misses_with setup fs a store (view parts.book a.engine) outcome (call_of a.path (view parts.book a.engine))
-    by_end fs setup store a outcome stands e =
+  -- by the end of its invocation
+  by_end : (fs : List Function) (setup : Setup) (store : Store) (a : Attempt) (outcome : Option Outcome) → FlowStandsFor setup fs store a parts kept → Ended outcome
+      → misses_with setup fs a store (view parts.book a.engine) outcome (call_of a.path (view parts.book a.engine)) ≡ running_missed fs parts setup store a
+  by_end fs setup store a outcome stands e =
+      let seen = view parts.book a.engine in
+      sym (ap (λ (found : Option Outcome). misses_with setup fs a store seen found (call_of a.path seen)) (result_is fs parts kept setup store a outcome stands e))
+
+  -- It has ended.
+  pub misses_ended : (outcome : Outcome) → Ended (Some outcome) → MissesBy (λ fs. Runs) (λ fs. running_missed fs parts) parts parts kept what.Nothing
+  misses_ended outcome e fs setup store a stands p =
+      subst (λ (missed : Missed). IsMissed setup missed parts parts what.Nothing) (by_end fs setup store a (Some outcome) stands e)
+      (misses_none setup fs store a parts kept stands)
+
+  -- It hasn't.
+  pub misses_unended : Ended None → (fs : List Function) → Leads Runs Runs (running_missed fs parts) (unended_missed fs parts) fs parts kept
+  misses_unended e fs = record { needs = λ setup store a stands p. p; same = λ setup store a stands p. by_end fs setup store a None stands e }
+
+  -- It has adopted no Init.
+  pub misses_uncalled : kept.progress.place ≡ 0 → MissesBy (λ fs. Runs) (λ fs. unended_missed fs parts) parts parts kept what.Nothing
+  misses_uncalled none fs setup store a stands p =
+      let seen = view parts.book a.engine in
+      subst (λ (missed : Missed). IsMissed setup missed parts parts what.Nothing)
+      (uncalled_by setup fs a store seen (call_of a.path seen) (place_is fs parts kept a stands.attempt ∙ none))
+      (misses_none setup fs store a parts kept stands)
+
+  -- It has adopted its Init.
+  pub misses_begun : 0 < kept.progress.place → (fs : List Function) → Leads Runs HasBegun (unended_missed fs parts) (next_missed fs parts) fs parts kept
+  misses_begun lt fs = record {
+    needs = λ setup store a stands runs. begun fs parts kept setup store a stands lt runs;
+    same = λ setup store a stands runs.
+        let script = begun fs parts kept setup store a stands lt runs in
         let seen = view parts.book a.engine in
-        ap (misses_if setup fs a store seen) (life_runs fs a stands.attempt)
-        ∙ ap (λ (found : Option Outcome). misses_with setup fs a store seen found (call_of a.path seen)) (result_is fs parts kept setup store a outcome stands e)
+        let sees = stands.can.sees.called script.before runs script.begun in
+        sym (ap (λ (call : Option Call). misses_with setup fs a store seen None call) sees.called
+        ∙ ap (misses_placed setup fs a store seen) script.begun);
+  }
 
-    -- It has ended.
-    pub misses_ended : (outcome : Outcome) → Ended (Some outcome) → MissesBy (λ fs. Always) (λ fs. step_missed fs parts) parts parts kept what.Nothing
-    misses_ended outcome e fs setup store a stands p =
-        subst (λ (missed : Missed). IsMissed setup missed parts parts what.Nothing) (sym (by_end fs setup store a (Some outcome) stands e))
+  abbrev Answers : Bool → Type 0
+  Answers good = (fs : List Function) (setup : Setup) (store : Store) (a : Attempt) → FlowStandsFor setup fs store a parts kept → HasScript a
+      → good ≡ is_some (answers_to a (attempt_ask fs a) (nth (step_tag a.path) a.place (view parts.book a.engine)))
+
+  pub misses_next : (good : Bool) → good ≡ true → Answers good
+      → (fs : List Function) → Leads HasBegun (FindsAnswer fs parts) (next_missed fs parts) (next_missed fs parts) fs parts kept
+  misses_next good is answers fs = record {
+    needs = λ setup store a stands script. (script, sym (answers fs setup store a stands script) ∙ is);
+    same = λ setup store a stands script. refl;
+  }
+
+  module _ (good : Bool) (is : good ≡ false) (answers : Answers good) where
+    by_waiting : (fs : List Function) (setup : Setup) (store : Store) (a : Attempt) (w : Bool) → FlowStandsFor setup fs store a parts kept → HasScript a → kept.progress.waiting ≡ w
+        → cond w (nothing_missed store) (asked_missed fs setup store a) ≡ next_missed fs parts setup store a
+    by_waiting fs setup store a w stands script waits =
+        sym (
+          ap (misses_at setup a store (attempt_ask fs a)) (none_by _ (sym (answers fs setup store a stands script) ∙ is))
+          ∙ ap (λ (v : Bool). cond v (nothing_missed store) (asked_missed fs setup store a)) (sym (ap (λ (p : Progress). p.waiting) stands.attempt.progress) ∙ waits)
+        )
+
+    pub misses_waiting : kept.progress.waiting ≡ true → MissesBy (λ fs. HasBegun) (λ fs. next_missed fs parts) parts parts kept what.Nothing
+    misses_waiting waits fs setup store a stands script =
+        subst (λ (missed : Missed). IsMissed setup missed parts parts what.Nothing) (by_waiting fs setup store a true stands script waits)
         (misses_none setup fs store a parts kept stands)
 
-    module _ (e : Ended None) where
-      -- It has adopted no Init.
-      pub misses_uncalled : kept.progress.place ≡ 0 → MissesBy (λ fs. Always) (λ fs. step_missed fs parts) parts parts kept what.Nothing
-      misses_uncalled none fs setup store a stands p =
-          let seen = view parts.book a.engine in
-          subst (λ (missed : Missed). IsMissed setup missed parts parts what.Nothing)
-          (uncalled_by setup fs a store seen (call_of a.path seen) (place_is fs parts kept a stands.attempt ∙ none)
-          ∙ sym (by_end fs setup store a None stands e))
-          (misses_none setup fs store a parts kept stands)
-
-      -- It has adopted its Init.
-      module _ (lt : 0 < kept.progress.place) where
-        script_is : (fs : List Function) (setup : Setup) (store : Store) (a : Attempt) → FlowStandsFor setup fs store a parts kept → HasScript a
-        script_is fs setup store a stands = begun fs parts kept setup store a stands lt (life_runs fs a stands.attempt)
-
-        next_is : (fs : List Function) (setup : Setup) (store : Store) (a : Attempt) → FlowStandsFor setup fs store a parts kept
-            → step_missed fs parts setup store a ≡ next_missed fs parts setup store a
-        next_is fs setup store a stands =
-            let script = script_is fs setup store a stands in
-            let seen = view parts.book a.engine in
-            let sees = stands.can.sees.called script.before script.runs script.begun in
-            by_end fs setup store a None stands e
-            ∙ ap (λ (call : Option Call). misses_with setup fs a store seen None call) sees.called
-            ∙ ap (misses_placed setup fs a store seen) script.begun
-
-        abbrev Answers : Bool → Type 0
-        Answers good = (fs : List Function) (setup : Setup) (store : Store) (a : Attempt) → FlowStandsFor setup fs store a parts kept → HasScript a
-            → good ≡ is_some (answers_to a (attempt_ask fs a) (nth (step_tag a.path) a.place (view parts.book a.engine)))
-
-        pub misses_next : (good : Bool) → good ≡ true → Answers good
-            → (fs : List Function) → Leads Always (FindsAnswer fs parts) (step_missed fs parts) (next_missed fs parts) fs parts kept
-        misses_next good is answers fs = record {
-          needs = λ setup store a stands p.
-              let script = script_is fs setup store a stands in
-              (script, sym (answers fs setup store a stands script) ∙ is);
-          same = λ setup store a stands p. sym (next_is fs setup store a stands);
-        }
-
-        module _ (good : Bool) (is : good ≡ false) (answers : Answers good) where
-          by_waiting : (fs : List Function) (setup : Setup) (store : Store) (a : Attempt) (w : Bool) → FlowStandsFor setup fs store a parts kept → kept.progress.waiting ≡ w
-              → cond w (nothing_missed store) (asked_missed fs setup store a) ≡ step_missed fs parts setup store a
-          by_waiting fs setup store a w stands waits =
-              let script = script_is fs setup store a stands in
-              sym (
-                next_is fs setup store a stands
-                ∙ ap (misses_at setup a store (attempt_ask fs a)) (none_by _ (sym (answers fs setup store a stands script) ∙ is))
-                ∙ ap (λ (v : Bool). cond v (nothing_missed store) (asked_missed fs setup store a)) (sym (ap (λ (p : Progress). p.waiting) stands.attempt.progress) ∙ waits)
-              )
-
-          pub misses_waiting : kept.progress.waiting ≡ true → MissesBy (λ fs. Always) (λ fs. step_missed fs parts) parts parts kept what.Nothing
-          misses_waiting waits fs setup store a stands p =
-              subst (λ (missed : Missed). IsMissed setup missed parts parts what.Nothing) (by_waiting fs setup store a true stands waits)
-              (misses_none setup fs store a parts kept stands)
-
-          pub misses_asks : kept.progress.waiting ≡ false
-              → (fs : List Function) → Leads Always HasBegun (step_missed fs parts) (asked_missed fs) fs parts kept
-          misses_asks waits fs = record {
-            needs = λ setup store a stands p. script_is fs setup store a stands;
-            same = λ setup store a stands p. by_waiting fs setup store a false stands waits;
-          }
+    pub misses_asks : kept.progress.waiting ≡ false
+        → (fs : List Function) → Leads HasBegun HasBegun (next_missed fs parts) (asked_missed fs) fs parts kept
+    misses_asks waits fs = record {
+      needs = λ setup store a stands script. script;
+      same = λ setup store a stands script. by_waiting fs setup store a false stands script waits;
+    }
 
   -- The record at its place is found.
   pub misses_found : (seq : Seqnum) (body : Body)
@@ -444,27 +429,47 @@ module _ (parts : Parts) (kept : AttemptState) (key : List ℕ) (v : Value) wher
         (store_misses setup store parts after (nothing_missed store) what.Nothing stands.parts refl
         (subst (λ (m : Store). IsKept after m (live_bodies parts.book)) (same_store fs setup store a stands (λ done. isnt (same ∙ done))) (kept_is fs setup store a stands)))
 
--- What is asked, by the frame.
-other_by : (setup : Setup) (a : Attempt) (store : Store) (ask : Ask) → ((key : List ℕ) (v : Value) → ask ≡ k.Op (o.Write key v) → ⊥)
-    → nothing_missed store ≡ misses_asked setup a store (Some ask)
-other_by setup a store (k.Op (o.Write key v)) isnt = absurd (isnt key v refl)
+-- What is asked.
+other_by : (setup : Setup) (a : Attempt) (store : Store) (op : Op) → ((key : List ℕ) (v : Value) → op ≡ o.Write key v → ⊥)
+    → nothing_missed store ≡ misses_asked setup a store (Some (k.Op op))
+other_by setup a store (o.Write key v) isnt = absurd (isnt key v refl)
 other_by setup a store _ isnt = refl
 
 module _ (parts : Parts) (kept : AttemptState) where
   pub misses_unframed : kept.frame ≡ None → MissesBy (λ fs. HasBegun) asked_missed parts parts kept what.Nothing
   misses_unframed none fs setup store a stands script = absurd (no_frame setup fs store a parts kept stands script none)
 
-  module _ (w : FrameState) (frame : kept.frame ≡ Some w) where
-    pub misses_writes : (key : List ℕ) (v : Value) → w.ask ≡ k.Op (o.Write key v)
-        → (fs : List Function) → Leads HasBegun (ScriptAsks fs (k.Op (o.Write key v))) (asked_missed fs) (λ setup store a. misses_write setup a store key v a.mode a.late) fs parts kept
-    misses_writes key v is fs = record {
-      needs = λ setup store a stands script. record { script = script; asks = asks_is setup fs store a parts kept stands script w frame ∙ ap Some is };
-      same = λ setup store a stands script.
-          sym (ap (misses_asked setup a store) (asks_is setup fs store a parts kept stands script w frame ∙ ap Some is));
-    }
+  -- its script asks what its frame asks
+  pub misses_framed : (w : FrameState) (ask : Ask) → kept.frame ≡ Some w → ask ≡ w.ask
+      → (fs : List Function) → Leads HasBegun (ScriptAsks fs ask) (asked_missed fs) (asked_missed fs) fs parts kept
+  misses_framed w ask frame is fs = record {
+    needs = λ setup store a stands script. record { script = script; asks = asks_is setup fs store a parts kept stands script w frame ∙ ap Some (sym is) };
+    same = λ setup store a stands script. refl;
+  }
 
-    pub misses_others : ((key : List ℕ) (v : Value) → w.ask ≡ k.Op (o.Write key v) → ⊥) → MissesBy (λ fs. HasBegun) asked_missed parts parts kept what.Nothing
-    misses_others isnt fs setup store a stands script =
-        subst (λ (missed : Missed). IsMissed setup missed parts parts what.Nothing)
-        (other_by setup a store w.ask isnt ∙ sym (ap (misses_asked setup a store) (asks_is setup fs store a parts kept stands script w frame)))
-        (misses_none setup fs store a parts kept stands)
+  -- it is an operation, or the script is done
+  pub misses_operation : (ask : Ask) (op : Op) → ask ≡ k.Op op
+      → (fs : List Function) → Leads (ScriptAsks fs ask) (ScriptAsks fs (k.Op op)) (asked_missed fs) (asked_missed fs) fs parts kept
+  misses_operation ask op is fs = record {
+    needs = λ setup store a stands p. record { script = p.script; asks = p.asks ∙ ap Some is };
+    same = λ setup store a stands p. refl;
+  }
+
+  pub misses_done : (ask : Ask) (outcome : Outcome) → ask ≡ k.Done outcome → MissesBy (λ fs. ScriptAsks fs ask) asked_missed parts parts kept what.Nothing
+  misses_done ask outcome is fs setup store a stands p =
+      subst (λ (missed : Missed). IsMissed setup missed parts parts what.Nothing) (sym (ap (misses_asked setup a store) (p.asks ∙ ap Some is)))
+      (misses_none setup fs store a parts kept stands)
+
+  -- the operation is a write, or another
+  pub misses_writes : (op : Op) (key : List ℕ) (v : Value) → op ≡ o.Write key v
+      → (fs : List Function) → Leads (ScriptAsks fs (k.Op op)) (ScriptAsks fs (k.Op (o.Write key v))) (asked_missed fs) (λ setup store a. misses_write setup a store key v a.mode a.late) fs parts kept
+  misses_writes op key v is fs = record {
+    needs = λ setup store a stands p. record { script = p.script; asks = p.asks ∙ ap (λ (x : Op). Some (k.Op x)) is };
+    same = λ setup store a stands p. sym (ap (misses_asked setup a store) (p.asks ∙ ap (λ (x : Op). Some (k.Op x)) is));
+  }
+
+  pub misses_others : (op : Op) → ((key : List ℕ) (v : Value) → op ≡ o.Write key v → ⊥) → MissesBy (λ fs. ScriptAsks fs (k.Op op)) asked_missed parts parts kept what.Nothing
+  misses_others op isnt fs setup store a stands p =
+      subst (λ (missed : Missed). IsMissed setup missed parts parts what.Nothing)
+      (other_by setup a store op isnt ∙ sym (ap (misses_asked setup a store) p.asks))
+      (misses_none setup fs store a parts kept stands)

@@ -32,7 +32,7 @@ use Rattle.boki_types.specs.declared.plan.Setup.{Setup}
 use Rattle.boki_types.specs.declared.program.Function.{Function}
 use Rattle.boki_model.specs.Writes.{Store}
 use Rattle.boki_machine.specs.Attempt.{Attempt, Move, moves, adopts, call_of}
-use Rattle.boki_machine.specs.Step.{Missed, seqnum, attempt_ask, answers_to, adopts_answer, adopts_join, adopts_operation, records_below, is_committed, step_if_running, step_when_called, continue_step, misses_at, misses_asked, init_step, script_step, reads, reads_group, writes, logged_write_step, is_inline, join_step}
+use Rattle.boki_machine.specs.Step.{Missed, seqnum, attempt_ask, answers_to, adopts_answer, adopts_join, adopts_operation, records_below, is_committed, step_if_running, step_when_called, continue_step, misses_at, misses_asked, init_step, script_step, reads, reads_group, writes, logged_write_step, is_inline, join_step, misses_if, misses_with}
 use Rattle.boki_model.specs.Live.{Live}
 use Rattle.boki_types.specs.declared.body.Body.{Body}
 use Rattle.attempt_state.specs.declared.state.AttemptState.{AttemptState}
@@ -174,10 +174,17 @@ abbrev pub adopting_move : Parts → ℕ → Body → Setup → Store → Attemp
 adopting_move parts seq body setup store a =
     adopts_operation a store (view parts.book a.engine) seq body (moves a store line.WaitsRecord)
 
--- What a lost store call does: of any step; where the attempt has adopted its Init and its engine sees no end of its invocation; and
--- where besides it neither adopts nor waits.
+-- What a lost store call does in the order of the cases, by what the attempt's engine sees: of any step; where the attempt runs; where
+-- its engine sees no end of its invocation; where it has adopted its Init; and where besides it neither adopts nor waits.
 abbrev pub step_missed : List Function → Parts → Setup → Store → Attempt → Missed
 step_missed fs parts setup store a = missed_of setup fs store a parts
+
+abbrev pub running_missed : List Function → Parts → Setup → Store → Attempt → Missed
+running_missed fs parts setup store a = misses_if setup fs a store (view parts.book a.engine) Running
+
+abbrev pub unended_missed : List Function → Parts → Setup → Store → Attempt → Missed
+unended_missed fs parts setup store a =
+    misses_with setup fs a store (view parts.book a.engine) None (call_of a.path (view parts.book a.engine))
 
 abbrev pub next_missed : List Function → Parts → Setup → Store → Attempt → Missed
 next_missed fs parts setup store a =

@@ -1,10 +1,10 @@
 //! The store call of an attempt's next step, whose answer is lost.
-ghost use Rattle.std.specs.Prelude.{suc, [], ◌∷◌, OnErr, IfOk};
+ghost use Rattle.std.specs.Prelude.{◌≡◌, ◌&&◌, ◌||◌, suc, [], ◌∷◌, OnErr, IfOk};
 ghost use Rattle.boki_types.specs.declared.operation.Ask.TheVariants as k;
 ghost use Rattle.boki_types.specs.declared.operation.Op.TheVariants as o;
 ghost use Rattle.boki_model.specs.Writes.{put_at};
-ghost use Rattle.boki_machine.specs.Step.{misses_record, misses_marker, misses_write, misses_put};
-ghost use Rattle.boki_flow.specs.Arms.{Always, HasBegun, FindsAnswer, ScriptAsks, SeesSeqnum, CanMissIf, MissesBy, MissCutShortBy, step_missed, next_missed, asked_missed};
+ghost use Rattle.boki_machine.specs.Step.{misses_record, misses_marker, misses_write, misses_put, is_new_engine, is_short_value};
+ghost use Rattle.boki_flow.specs.Arms.{Always, Runs, HasBegun, FindsAnswer, ScriptAsks, SeesSeqnum, CanMissIf, MissesBy, MissCutShortBy, step_missed, running_missed, unended_missed, next_missed, asked_missed};
 
 use crate::cases::is_answered;
 use flow_parts::Parts;
@@ -27,20 +27,59 @@ pub(crate) fn miss_attempt(
     ensures cut { OnErr result (MissCutShortBy (λ fs. Always) (λ fs. step_missed fs parts.old)
         parts.old parts.new state.now) }
 {
+    if state.progress.is_running() {
+        miss_running(alloc, parts, state)
+    } else {
+        Ok(Miss::Idle)
+    }
+}
+
+/// The call of an attempt that runs.
+fn miss_running(alloc: Global, parts: &mut Parts, state: &AttemptState) -> Result<Miss, Memory>
+    requires { CanMissIf (λ fs. Runs) parts.old state.now }
+    ensures ok { IfOk result (MissesBy (λ fs. Runs) (λ fs. running_missed fs parts.old)
+        parts.old parts.new state.now) }
+    ensures cut { OnErr result (MissCutShortBy (λ fs. Runs) (λ fs. running_missed fs parts.old)
+        parts.old parts.new state.now) }
+{
     let at = &state.progress;
-    if !at.is_running() {
-        return Ok(Miss::Idle);
+    match last_finish(alloc, &parts.book, at.engine, at.path)? {
+        Some(outcome) => {
+            drop(outcome);
+            Ok(Miss::Nothing)
+        }
+        None => miss_unended(alloc, parts, state),
     }
-    if let Some(outcome) = last_finish(alloc, &parts.book, at.engine, at.path)? {
-        drop(outcome);
-        return Ok(Miss::Nothing);
-    }
+}
+
+/// The call of an attempt that runs, whose invocation's end its engine doesn't see.
+fn miss_unended(alloc: Global, parts: &mut Parts, state: &AttemptState) -> Result<Miss, Memory>
+    requires { CanMissIf (λ fs. Runs) parts.old state.now }
+    ensures ok { IfOk result (MissesBy (λ fs. Runs) (λ fs. unended_missed fs parts.old)
+        parts.old parts.new state.now) }
+    ensures cut { OnErr result (MissCutShortBy (λ fs. Runs) (λ fs. unended_missed fs parts.old)
+        parts.old parts.new state.now) }
+{
+    let at = &state.progress;
     // Before its Init is adopted no store call is made; behind it the attempt sees its call.
-    if at.place == 0 {
+    if at.place > 0 {
+        miss_on(alloc, parts, state)
+    } else {
         Ok(Miss::Nothing)
-    } else if is_answered(parts, state) {
+    }
+}
+
+/// The call of an attempt that has adopted its Init.
+fn miss_on(alloc: Global, parts: &mut Parts, state: &AttemptState) -> Result<Miss, Memory>
+    requires { CanMissIf (λ fs. HasBegun) parts.old state.now }
+    ensures ok { IfOk result (MissesBy (λ fs. HasBegun) (λ fs. next_missed fs parts.old)
+        parts.old parts.new state.now) }
+    ensures cut { OnErr result (MissCutShortBy (λ fs. HasBegun) (λ fs. next_missed fs parts.old)
+        parts.old parts.new state.now) }
+{
+    if is_answered(parts, state) {
         miss_record(alloc, parts, state)
-    } else if at.waiting {
+    } else if state.progress.waiting {
         Ok(Miss::Nothing)
     } else {
         miss_asked(parts, state)
@@ -138,14 +177,41 @@ fn miss_group(
 /// The call of a write that is asked.
 fn miss_asked(parts: &mut Parts, state: &AttemptState) -> Result<Miss, Memory>
     requires { CanMissIf (λ fs. HasBegun) parts.old state.now }
-    ensures ok { IfOk result (MissesBy (λ fs. HasBegun) asked_missed parts.old parts.new state.now) }
-    ensures cut { OnErr result (MissCutShortBy (λ fs. HasBegun) asked_missed parts.old parts.new state.now) }
+    ensures ok { IfOk result (MissesBy (λ fs. HasBegun) asked_missed
+        parts.old parts.new state.now) }
+    ensures cut { OnErr result (MissCutShortBy (λ fs. HasBegun) asked_missed
+        parts.old parts.new state.now) }
 {
-    let Some(frame) = &state.frame else {
-        return Ok(Miss::Nothing);
-    };
-    match frame.ask() {
-        Ask::Op(Op::Write { key, value }) => miss_write(parts, state, key, value),
+    match &state.frame {
+        Some(frame) => miss_ask(parts, state, frame.ask()),
+        None => Ok(Miss::Nothing),
+    }
+}
+
+/// The call of what is asked, where that is a write.
+fn miss_ask(parts: &mut Parts, state: &AttemptState, ask: &Ask) -> Result<Miss, Memory>
+    requires { CanMissIf (λ fs. ScriptAsks fs ask.now) parts.old state.now }
+    ensures ok { IfOk result (MissesBy (λ fs. ScriptAsks fs ask.now) asked_missed
+        parts.old parts.new state.now) }
+    ensures cut { OnErr result (MissCutShortBy (λ fs. ScriptAsks fs ask.now) asked_missed
+        parts.old parts.new state.now) }
+{
+    match ask {
+        Ask::Op(op) => miss_op(parts, state, op),
+        Ask::Done(_) => Ok(Miss::Nothing),
+    }
+}
+
+/// The call of an operation that is asked, where that is a write.
+fn miss_op(parts: &mut Parts, state: &AttemptState, op: &Op) -> Result<Miss, Memory>
+    requires { CanMissIf (λ fs. ScriptAsks fs (k.Op op.now)) parts.old state.now }
+    ensures ok { IfOk result (MissesBy (λ fs. ScriptAsks fs (k.Op op.now)) asked_missed
+        parts.old parts.new state.now) }
+    ensures cut { OnErr result (MissCutShortBy (λ fs. ScriptAsks fs (k.Op op.now)) asked_missed
+        parts.old parts.new state.now) }
+{
+    match op {
+        Op::Write { key, value } => miss_write(parts, state, key, value),
         _ => Ok(Miss::Nothing),
     }
 }
@@ -168,7 +234,7 @@ fn miss_write(
     let at = &state.progress;
     if at.writes_freely() {
         miss_put(parts, state, key, value)
-    } else if at.stored || is_inline(parts.newer, at.engine, value) {
+    } else if has_value(parts, state, value) {
         Ok(Miss::Nothing)
     } else {
         match store_write(&mut parts.store, at.write_name(), at.cursor, value)? {
@@ -176,6 +242,15 @@ fn miss_write(
             Named::Gone => Ok(Miss::Nothing),
         }
     }
+}
+
+/// Whether the value of a write is to stand in its record, or is stored under its name already.
+fn has_value(parts: &Parts, state: &AttemptState, value: &Value) -> bool
+    ensures { result ≡ ((is_new_engine parts.now.newer state.now.progress.engine && is_short_value value.now)
+        || state.now.progress.stored) }
+{
+    let at = &state.progress;
+    is_inline(parts.newer, at.engine, value) || at.stored
 }
 
 /// The call of a free write.

@@ -1,5 +1,5 @@
 -- A sweep of the object store.
-use Rattle.std.proofs.Common.{◌≡◌, ◌∙◌, ℕ, suc, ◌-◌, ◌≤◌, ◌<◌, ◌&&◌, Bool, true, false, cond, eqb, leb, ltb, max, List, [], ◌∷◌, ◌++◌, length, Option, Some, None, option_map, refl, sym, ap, ap₂, subst, append-nil, arith}
+use Rattle.std.proofs.Common.{◌≡◌, ◌∙◌, ◌⊎◌, inl, inr, ℕ, suc, ◌-◌, ◌≤◌, ◌<◌, ◌&&◌, Bool, true, false, cond, eqb, leb, ltb, max, List, [], ◌∷◌, ◌++◌, length, Option, Some, None, option_map, refl, sym, ap, ap₂, subst, append-nil, arith}
 use Rattle.std.specs.Option.{option_map_or}
 use Rattle.std.specs.Prelude.{nat_le, nat_lt}
 use Rattle.std.proofs.Math.Nat.{le_refl}
@@ -41,6 +41,7 @@ use Rattle.step_log.specs.Sound.{body_of, bodies, view, live_bodies}
 use Rattle.flow_parts.specs.declared.parts.Parts.{Parts}
 use Rattle.machine_laws.specs.Kept.{WritesHaveValues}
 use Rattle.step_laws.specs.Kept.{MachineIsKept, IsTextEvent}
+use Rattle.hm_switch.specs.SwitchStates.{SwitchState, IsFoldOf, IsCurrent}
 use Rattle.hm_switch.proofs.Going.{view_falls}
 use Rattle.cluster_events.specs.Machines.{PartsAreOf, IsEventDone}
 use Rattle.cluster_events.specs.Writes.{write_in}
@@ -160,6 +161,11 @@ module _ (low : ℕ) where
       at ih true e = here (eqb-true seq x.seq e)
       at ih false e = other ih (eqb-false seq x.seq e) (ltb x.seq seq) refl
 
+  -- and at the end all of them
+  pub between_all : (seq high : ℕ) (xs : List (Live Body)) → (seq ≤ low) ⊎ (seq ≤ high) → high ≤ seq → logged_between low seq xs ≡ logged_between low high xs
+  between_all seq high xs (inl le) more = between_empty seq xs le ∙ sym (between_empty high xs (omega (arith, le, more)))
+  between_all seq high xs (inr le) more = let same : seq ≡ high = omega (arith, le, more) in ap (λ n. logged_between low n xs) same
+
 -- The write of the record at a seqnum, by the bytes.
 module _ (b : BookState) (engine seq : ℕ) where
   record_is : record_at seq (view b engine) ≡ cond (is_live seq (seen b engine)) (option_map (live_at seq) (option_map (decoded_record body_of) (at_seq seq (ordered b)))) None
@@ -182,6 +188,16 @@ module _ (b : BookState) (engine seq : ℕ) where
       ap (λ (o : Option (Live Body)). option_map_or (λ (x : Live Body). settled_of true seq (logged_write x.holds)) o []) record_is
       ∙ ap (λ (t : Bool). option_map_or (λ (x : Live Body). settled_of true seq (logged_write x.holds)) (cond t (option_map (live_at seq) (option_map (decoded_record body_of) (at_seq seq (ordered b)))) None) []) lives
       ∙ at_record (at_seq seq (ordered b))
+
+  pub write_there : is_live seq (seen b engine) ≡ true → (r : Record) → at_seq seq (ordered b) ≡ Some r → write_in (view b engine) seq ≡ settled_of true seq (logged_write (body_of r.bytes))
+  write_there lives r is = write_live lives ∙ ap (λ (o : Option Record). option_map_or (λ (r : Record). settled_of true seq (logged_write (body_of r.bytes))) o []) is
+
+  pub write_absent : is_live seq (seen b engine) ≡ true → at_seq seq (ordered b) ≡ None → write_in (view b engine) seq ≡ []
+  write_absent lives is = write_live lives ∙ ap (λ (o : Option Record). option_map_or (λ (r : Record). settled_of true seq (logged_write (body_of r.bytes))) o []) is
+
+-- A view of switches that is current tells the floor.
+pub fold_there : (book : BookState) (engine : ℕ) (s t : SwitchState) → s ≡ t → IsCurrent book engine t → IsFoldOf (view book engine) s
+fold_there book engine s t is current = subst (IsFoldOf (view book engine)) (sym is) current.fold
 
 -- The event.
 
@@ -249,3 +265,16 @@ module _ (setup : Setup) (fs : List Function) (m : Machine) (old : Parts) (are :
       text = text;
       are = subst (λ (n : Machine). PartsAreOf setup fs n (record old { store = swept })) (sym (ap (λ (r : EventResult). r.machine) result_is)) swept_are;
     }
+
+  -- up to a seqnum that is the bound
+  pub swept_done :
+      (swept : StoreState) (settled : List Settled) (high low held : ℕ) → high ≡ bound → settled ≡ logged_between old.store.floor high (view old.book engine)
+      → ((n : Store) (records : List (Live Body)) → StandsFor old.store n records → settled ≡ logged_between n.floor high records → AllHaveValues old.store.named settled → StandsFor swept (after_sweep high n) records)
+      → low ≡ swept.floor → ((n : Store) (records : List (Live Body)) → StandsFor swept n records → held ≡ held_count n records)
+      → IsEventDone setup fs (event.Sweep engine) m (record old { store = swept }) (line.Floor (seqnum low) held)
+  swept_done swept settled high low held e told does =
+      sweep_done swept settled (told ∙ ap (λ n. logged_between old.store.floor n (view old.book engine)) e)
+      (subst
+      (λ (h : ℕ). (n : Store) (records : List (Live Body)) → StandsFor old.store n records → settled ≡ logged_between n.floor h records → AllHaveValues old.store.named settled → StandsFor swept (after_sweep h n) records)
+      e does)
+      low held

@@ -1,15 +1,24 @@
-use Rattle.std.proofs.Common.{◌≡◌, ◌∙◌, sym, ap, subst}
-use Rattle.boki_types.specs.declared.operation.Ask.TheVariants as k
-use Rattle.boki_types.specs.declared.operation.Op.TheVariants as o
-use Rattle.boki_machine.specs.Step.{misses_write}
 use Rattle.boki_flow.specs.Arms.{HasBegun, ScriptAsks, asked_missed}
-use Rattle.boki_flow.proofs.Leading.{leads_miss_cut}
-use Rattle.boki_flow.proofs.Misses.{misses_writes}
+use Rattle.boki_flow.proofs.Leading.{can_miss_if, leads_misses, leads_miss_cut}
+use Rattle.boki_flow.proofs.Misses.{misses_unframed, misses_framed}
 use Rattle.boki_flow.proofs.missing.miss_asked.Goals as goal
 
-pub returns-in-Op-Write-clause-cut : goal.returns-in-Op-Write-clause-cut
-returns-in-Op-Write-clause-cut c =
-    let key = c.in-Op-Write.key in
-    let v = c.in-Op-Write.value in
-    leads_miss_cut (λ fs. HasBegun) (λ fs. ScriptAsks fs (k.Op (o.Write key v))) asked_missed (λ fs setup store a. misses_write setup a store key v a.mode a.late) c.args.parts.now c.miss_write.new.parts c.args.state.now
-    (misses_writes c.args.parts.now c.args.state.now c.in-Some.frame c.in-Some.is key v (sym c.ask.ensures.same ∙ c.in-Op-Write.is ∙ ap k.Op c.in-Op-Write.field-0-is)) c.miss_write.result c.miss_write.ensures.cut
+pub miss_ask-requires : goal.miss_ask-requires
+miss_ask-requires c =
+    can_miss_if (λ fs. HasBegun) (λ fs. ScriptAsks fs c.ask.result.now) c.args.parts.now c.args.state.now
+    (λ fs. (misses_framed c.args.parts.now c.args.state.now c.in-Some.frame c.ask.result.now c.in-Some.is c.ask.ensures.same fs).needs) c.requires
+
+pub returns-in-Some-clause-ok : goal.returns-in-Some-clause-ok
+returns-in-Some-clause-ok c =
+    let old = c.args.parts.now in
+    leads_misses (λ fs. HasBegun) (λ fs. ScriptAsks fs c.ask.result.now) (asked_missed) (asked_missed) old c.miss_ask.new.parts c.args.state.now
+    (misses_framed c.args.parts.now c.args.state.now c.in-Some.frame c.ask.result.now c.in-Some.is c.ask.ensures.same) c.miss_ask.result c.miss_ask.ensures.ok
+
+pub returns-in-Some-clause-cut : goal.returns-in-Some-clause-cut
+returns-in-Some-clause-cut c =
+    let old = c.args.parts.now in
+    leads_miss_cut (λ fs. HasBegun) (λ fs. ScriptAsks fs c.ask.result.now) (asked_missed) (asked_missed) old c.miss_ask.new.parts c.args.state.now
+    (misses_framed c.args.parts.now c.args.state.now c.in-Some.frame c.ask.result.now c.in-Some.is c.ask.ensures.same) c.miss_ask.result c.miss_ask.ensures.cut
+
+pub returns-in-None-clause-ok : goal.returns-in-None-clause-ok
+returns-in-None-clause-ok c = misses_unframed c.args.parts.now c.args.state.now c.in-None.is

@@ -8,8 +8,7 @@ use Rattle.boki_machine.specs.Step.{misses_write, misses_put}
 use Rattle.boki_flow.specs.Arms.{ScriptAsks}
 use Rattle.boki_flow.proofs.Standing.{on_err}
 use Rattle.boki_flow.proofs.Leading.{leads_misses, leads_miss_cut}
-use Rattle.boki_flow.proofs.Misses.{by_stored, by_inline, is_there, misses_frees, misses_there, misses_gone, misses_stores, put_missed, write_missed, miss_cut_stays}
-use Rattle.boki_flow.proofs.missing.miss_write.Goals.{then-at, else-at}
+use Rattle.boki_flow.proofs.Misses.{misses_frees, misses_there, misses_gone, misses_stores, put_missed, write_missed, miss_cut_stays}
 use Rattle.boki_flow.proofs.missing.miss_write.Goals as goal
 
 pub returns-in_err-store_write-clause-cut : goal.returns-in_err-store_write-clause-cut
@@ -34,21 +33,18 @@ returns-then-writes_freely-clause-cut c =
     leads_miss_cut (λ fs. ScriptAsks fs (k.Op (o.Write key v))) (λ fs. ScriptAsks fs (k.Op (o.Write key v))) (write_missed old kept key v) (put_missed old kept key v) old c.miss_put.new.parts kept
     (misses_frees old kept key v (sym c.writes_freely.ensures ∙ c.if-writes_freely.true)) c.miss_put.result c.miss_put.ensures.cut
 
-pub returns-then-is_inline-clause-ok : goal.returns-then-is_inline-clause-ok
-returns-then-is_inline-clause-ok c =
-    let there : is_there c.args.parts.now c.args.state.now c.args.key.now c.args.value.now (sym c.writes_freely.ensures ∙ c.if-writes_freely.false) ≡ c.if-at.value = (elim c.if-at.branch [ then-at w ↦ by_stored _ _ _ w.if-at.true (w.value-is ∙ w.if-at.true) | else-at w ↦ by_inline _ _ _ w.if-at.false (w.value-is ∙ w.is_inline.ensures) ]) in
-    misses_there c.args.parts.now c.args.state.now c.args.key.now c.args.value.now (sym c.writes_freely.ensures ∙ c.if-writes_freely.false) (there ∙ c.if-is_inline.true)
+pub returns-then-has_value-clause-ok : goal.returns-then-has_value-clause-ok
+returns-then-has_value-clause-ok c =
+    misses_there c.args.parts.now c.args.state.now c.args.key.now c.args.value.now (sym c.writes_freely.ensures ∙ c.if-writes_freely.false) (sym c.has_value.ensures ∙ c.if-has_value.true)
 
 pub returns-in-Done-clause-ok : goal.returns-in-Done-clause-ok
 returns-in-Done-clause-ok c =
-    let there : is_there c.args.parts.now c.args.state.now c.args.key.now c.args.value.now (sym c.writes_freely.ensures ∙ c.if-writes_freely.false) ≡ c.if-at.value = (elim c.if-at.branch [ then-at w ↦ by_stored _ _ _ w.if-at.true (w.value-is ∙ w.if-at.true) | else-at w ↦ by_inline _ _ _ w.if-at.false (w.value-is ∙ w.is_inline.ensures) ]) in
-    misses_stores c.args.parts.now c.args.state.now c.args.key.now c.args.value.now (sym c.writes_freely.ensures ∙ c.if-writes_freely.false) (there ∙ c.if-is_inline.false) c.write_name.result c.store_write.new.store
+    misses_stores c.args.parts.now c.args.state.now c.args.key.now c.args.value.now (sym c.writes_freely.ensures ∙ c.if-writes_freely.false) (sym c.has_value.ensures ∙ c.if-has_value.false) c.write_name.result c.store_write.new.store
     c.write_name.ensures.path c.write_name.ensures.place
     (subst (λ (told : Named). StoresNamed c.write_name.result c.args.state.now.progress.cursor.0 c.args.value.now c.args.parts.now.store c.store_write.new.store told) c.in-Done.is c.in_ok-store_write.ensures.ok)
 
 pub returns-in-Gone-clause-ok : goal.returns-in-Gone-clause-ok
 returns-in-Gone-clause-ok c =
-    let there : is_there c.args.parts.now c.args.state.now c.args.key.now c.args.value.now (sym c.writes_freely.ensures ∙ c.if-writes_freely.false) ≡ c.if-at.value = (elim c.if-at.branch [ then-at w ↦ by_stored _ _ _ w.if-at.true (w.value-is ∙ w.if-at.true) | else-at w ↦ by_inline _ _ _ w.if-at.false (w.value-is ∙ w.is_inline.ensures) ]) in
-    misses_gone c.args.parts.now c.args.state.now c.args.key.now c.args.value.now (sym c.writes_freely.ensures ∙ c.if-writes_freely.false) (there ∙ c.if-is_inline.false) c.write_name.result c.store_write.new.store
+    misses_gone c.args.parts.now c.args.state.now c.args.key.now c.args.value.now (sym c.writes_freely.ensures ∙ c.if-writes_freely.false) (sym c.has_value.ensures ∙ c.if-has_value.false) c.write_name.result c.store_write.new.store
     c.write_name.ensures.path c.write_name.ensures.place
     (subst (λ (told : Named). StoresNamed c.write_name.result c.args.state.now.progress.cursor.0 c.args.value.now c.args.parts.now.store c.store_write.new.store told) c.in-Gone.is c.in_ok-store_write.ensures.ok)
