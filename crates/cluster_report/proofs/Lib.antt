@@ -1,2 +1,4 @@
 pub mod Entries
+pub mod Folding
+pub mod KeyValues
 pub mod Walks

@@ -1,5 +1,6 @@
 -- The live records, one by one.
 use Rattle.std.proofs.Common.{◌≡◌, ℕ, zero, suc, ◌<◌, ◌≤◌, Bool, true, false, cond, eqb, leb, ◌||◌, List, [], ◌∷◌, length, Option, Some, None, is_some, option_map, refl, sym, ap, subst, ◌∙◌, arith}
+use Rattle.std.proofs.lemmas.Bool.{lt-leb}
 use Rattle.boki_types.specs.declared.body.Body.{Body}
 use Rattle.boki_model.specs.Live.{Live, live, upto, is_live, entry_of}
 use Rattle.boki_model.specs.Order.{order}
@@ -39,11 +40,7 @@ module _ (book : BookState) where
 
   none_seen_from : (end : ℕ) (xs : List (Live Body)) → FallBelow end xs → upto 0 xs ≡ []
   none_seen_from end [] fall = refl
-  none_seen_from end (x ∷ xs) fall = at x.seq fall.0
-    where
-      at : (n : ℕ) → 0 < n → cond (leb n 0) (x ∷ xs) (upto 0 xs) ≡ []
-      at zero lt = absurd (let z : ⊥ = omega (arith, lt) in z)
-      at (suc n) lt = none_seen_from x.seq xs fall.2
+  none_seen_from end (x ∷ xs) fall = ap (λ t. cond t (x ∷ xs) (upto 0 xs)) (lt-leb x.seq 0 fall.0) ∙ none_seen_from x.seq xs fall.2
 
   pub none_seen : upto 0 (live_bodies book) ≡ []
   none_seen = none_seen_from (suc (length (ordered book))) (live_bodies book) falls

@@ -45,11 +45,8 @@ pub(crate) fn folds_of(
     ensures { IfOk result (λ folds. maps_of folds ≡ folded keys.now (live_bodies book.now)) }
 {
     let mut folds = opening(alloc, keys)?;
-    let length = book.length();
-    let mut seq = 0;
-    while seq < length {
-        seq += 1;
-        add_at(alloc, book, index, Seqnum(seq), &mut folds)?;
+    for past in 0..book.length() {
+        add_at(alloc, book, index, Seqnum(past + 1), &mut folds)?;
     }
     Ok(folds)
 }
