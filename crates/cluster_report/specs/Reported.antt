@@ -5,6 +5,7 @@ use Rattle.boki_types.specs.declared.body.Body.{Body}
 use Rattle.boki_types.specs.declared.plan.Setup.{Setup}
 use Rattle.boki_types.specs.declared.program.Function.{Function}
 use Rattle.boki_types.specs.declared.turn.Report.{Report}
+use Rattle.boki_types.specs.declared.turn.Turn.{Turn}
 use Rattle.boki_model.specs.Live.{Live}
 use Rattle.boki_model.specs.Bodies.{step_of}
 use Rattle.boki_model.specs.Modes.{result_of}
@@ -16,10 +17,13 @@ use Rattle.boki_machine.specs.Turns.{turns}
 use Rattle.exactly_once.specs.Induction.EventKeeps.{MachineHolds}
 use Rattle.exactly_once.specs.FurtherLaws.Words.{IsAmong}
 use Rattle.machine_laws.specs.Ends.{EndsLast}
+use Rattle.boki_txn.specs.Names.{with_values}
 use Rattle.book_api.specs.Books.{BookState, ordered}
 use Rattle.obj_store.specs.Kept.{StoreState}
 use Rattle.step_log.specs.Sound.{bodies, live_bodies}
 use Rattle.hm_read.specs.Kept.{AreKept}
+use Rattle.cluster_report.specs.declared.folds.Folds.{Folds}
+use Rattle.cluster_report.specs.Told.{AreLast, CanTell, values_upto}
 
 -- what a report tells of a book and a store m
 abbrev pub objects_in : Store → BookState → List (List ℕ × Value)
@@ -33,6 +37,17 @@ report_in fs m book = record {
   queues = queues (live_bodies book);
   stores = store_values (commits (live_bodies book));
 }
+
+-- The report of these turns and of what was kept of some records, with the values of the objects up to a seqnum, whatever store
+-- the object store stands for.
+pub record HasParts (told : List Turn) (folds : Folds) (kept : StoreState) (last : ℕ) (whole : Report) : Type 0 where
+  pub turns_are : whole.turns ≡ told
+  pub results_are : whole.results ≡ folds.results.entries
+  pub objects_are :
+      (m : Store) (records : List (Live Body)) → CanTell last kept m records → AreLast last records folds.writes.entries
+      → whole.objects ≡ values_upto last m records folds.writes.entries
+  pub queues_are : whole.queues ≡ folds.queues.entries
+  pub stores_are : whole.stores ≡ with_values folds.names
 
 -- The object store stands for the store m beside the book, and it still has what the report asks for: its floor isn't above the
 -- newest seqnum, and no step record of an invocation that hasn't ended is below it; and a Finish is its path's last step record.

@@ -4,11 +4,11 @@
 
 mod folds;
 pub mod laws;
-mod values;
 mod queue;
 mod report;
 mod telling;
 mod turning;
+mod values;
 mod walk;
 
 pub use boki_types::{Report, Turn};

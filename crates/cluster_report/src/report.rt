@@ -6,7 +6,7 @@ ghost use Rattle.boki_machine.specs.Reports as machine;
 ghost use Rattle.boki_machine.specs.Turns as turn;
 ghost use Rattle.step_log.specs.Sound.{live_bodies};
 ghost use Rattle.cluster_report.specs.Folded.{maps_of, folded};
-ghost use Rattle.cluster_report.specs.Reported.{CanReport, objects_in, report_in};
+ghost use Rattle.cluster_report.specs.Reported.{CanReport, HasParts, objects_in, report_in};
 
 use crate::folds::{Folds, folds_of};
 use crate::turning::turns_of;
@@ -35,10 +35,22 @@ pub fn report_of(
     let turns = turns_of(alloc, book, &index, store, program)?;
     let keys = store.keys()?;
     let folds = folds_of(alloc, book, &index, keys.as_slice())?;
+    with_turns(turns, &folds, store, Seqnum(book.length()))
+}
+
+// The report of these turns and of the folds of the records up to a seqnum.
+fn with_turns(
+    turns: List<Turn>,
+    folds: &Folds,
+    store: &ObjStore,
+    last: Seqnum,
+) -> Result<Report, Memory>
+    ensures { IfOk result (HasParts turns folds.now store.now last.0) }
+{
     Ok(Report {
         turns,
         results: folds.all_results()?,
-        objects: folds.objects(store, Seqnum(book.length()))?,
+        objects: folds.objects(store, last)?,
         queues: folds.all_queues()?,
         stores: folds.all_stores()?,
     })
@@ -67,11 +79,7 @@ pub fn results(alloc: Global, book: &Book) -> Result<List<(Path, Outcome)>, Memo
 }
 
 /// The objects with their values at the end, in the order of keys. What it needs of the store is as for the report.
-pub fn objects(
-    alloc: Global,
-    book: &Book,
-    store: &ObjStore,
-) -> Result<List<(Words, Value)>, Memory>
+pub fn objects(alloc: Global, book: &Book, store: &ObjStore) -> Result<List<(Words, Value)>, Memory>
     ensures { IfOk result (λ objects. (m : Store) → CanReport book.now store.now m → objects ≡ objects_in m book.now) }
 {
     let index = book.whole(alloc)?;

@@ -57,10 +57,10 @@ pub(crate) fn turns_of(
         ahead: BTreeMap::new(alloc),
         turns: Vec::new(alloc),
     };
-    let mut seq = book.length();
-    while seq > 0 {
-        add_at(alloc, book, index, store, program, Seqnum(seq), &mut walk)?;
-        seq -= 1;
+    let length = book.length();
+    for passed in 0..length {
+        let seq = Seqnum(length - passed);
+        add_at(alloc, book, index, store, program, seq, &mut walk)?;
     }
     Ok(oldest_first(walk))
 }
@@ -196,7 +196,10 @@ fn operations(
 {
     match next {
         Some(next) => Ok(next.saturating_sub(index)),
-        None => own.checked_add(store.versions_at(seq)).ok_or(Memory),
+        None => {
+            let n = own.checked_add(store.versions_at(seq)).ok_or(Memory)?;
+            Ok(n)
+        }
     }
 }
 
