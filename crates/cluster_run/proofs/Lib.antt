@@ -1,2 +1,4 @@
 pub mod Numbered
 pub mod Reached
+pub mod Killing
+pub mod AttemptEvents

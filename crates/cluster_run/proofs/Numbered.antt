@@ -107,10 +107,10 @@ module _ (fs : List Function) where
   found_alike n [] [] all = tt
   found_alike n [] (e ∷ es) all = absurd all
   found_alike n (x ∷ xs) [] all = absurd all
-  found_alike n (x ∷ xs) (e ∷ es) all = at (found_alike n xs es all.1.1) (eqb n x.number) (eqb n e.0) (ap (eqb n) all.0)
+  found_alike n (x ∷ xs) (e ∷ es) all = at (found_alike n xs es all.2) (eqb n x.number) (eqb n e.0) (ap (eqb n) all.0)
     where
       at : FoundAlike (attempt_at n xs) (lookup (eqb n) es) → (t u : Bool) → t ≡ u → FoundAlike (cond t (Some x.attempt) (attempt_at n xs)) (cond u (Some e.1) (lookup (eqb n) es))
-      at ih true true is = all.1.0
+      at ih true true is = all.1
       at ih false false is = ih
       at ih true false is = cc
       at ih false true is = cc
@@ -120,12 +120,12 @@ module _ (fs : List Function) where
   set_alike n a s [] [] is all = tt
   set_alike n a s [] (e ∷ es) is all = absurd all
   set_alike n a s (x ∷ xs) [] is all = absurd all
-  set_alike n a s (x ∷ xs) (e ∷ es) is all = at (set_alike n a s xs es is all.1.1) (eqb n x.number) refl (eqb n e.0) (ap (eqb n) all.0)
+  set_alike n a s (x ∷ xs) (e ∷ es) is all = at (set_alike n a s xs es is all.2) (eqb n x.number) refl (eqb n e.0) (ap (eqb n) all.0)
     where
       at : AttemptsStandFor fs (set_attempt n a xs) (set_value (eqb n) es s) → (t : Bool) → eqb n x.number ≡ t → (u : Bool) → t ≡ u
           → AttemptsStandFor fs (cond t (record { number = n; attempt = a } ∷ xs) (x ∷ set_attempt n a xs)) (cond u ((e.0, s) ∷ es) (e ∷ set_value (eqb n) es s))
-      at ih true e' true is' = (eqb-true n x.number e' ∙ all.0, is, all.1.1)
-      at ih false e' false is' = (all.0, all.1.0, ih)
+      at ih true e' true is' = (eqb-true n x.number e' ∙ all.0, is, all.2)
+      at ih false e' false is' = (all.0, all.1, ih)
       at ih true e' false is' = cc
       at ih false e' true is' = cc
 
@@ -134,7 +134,7 @@ module _ (fs : List Function) where
   more_alike [] [] x s all is = (refl, is, tt)
   more_alike [] (e ∷ es) x s all is = absurd all
   more_alike (y ∷ ys) [] x s all is = absurd all
-  more_alike (y ∷ ys) (e ∷ es) x s all is = (all.0, all.1.0, more_alike ys es x s all.1.1 is)
+  more_alike (y ∷ ys) (e ∷ es) x s all is = (all.0, all.1, more_alike ys es x s all.2 is)
 
   -- the keys are distinct, and so are the numbers
   none_at : (n : ℕ) (xs : List NumberedAttempt) (es : List (ℕ × AttemptState)) → AttemptsStandFor fs xs es → AllByRecursion (λ k. eqb n k ≡ false) (keys_of es) → attempt_at n xs ≡ None
@@ -142,7 +142,7 @@ module _ (fs : List Function) where
   none_at n [] (e ∷ es) all other = absurd all
   none_at n (x ∷ xs) [] all other = absurd all
   none_at n (x ∷ xs) (e ∷ es) all other =
-      ap (λ (t : Bool). cond t (Some x.attempt) (attempt_at n xs)) (ap (eqb n) all.0 ∙ other.0) ∙ none_at n xs es all.1.1 other.1
+      ap (λ (t : Bool). cond t (Some x.attempt) (attempt_at n xs)) (ap (eqb n) all.0 ∙ other.0) ∙ none_at n xs es all.2 other.1
 
   pub are_apart : (xs : List NumberedAttempt) (es : List (ℕ × AttemptState)) → AttemptsStandFor fs xs es → IsDistinct eqb (keys_of es) → AreApart xs
   unfolding IsDistinct
@@ -150,4 +150,4 @@ module _ (fs : List Function) where
   are_apart [] (e ∷ es) all distinct = absurd all
   are_apart (x ∷ xs) [] all distinct = absurd all
   are_apart (x ∷ xs) (e ∷ es) all distinct =
-      (subst (λ n. attempt_at n xs ≡ None) (sym all.0) (none_at e.0 xs es all.1.1 distinct.0), are_apart xs es all.1.1 distinct.1)
+      (subst (λ n. attempt_at n xs ≡ None) (sym all.0) (none_at e.0 xs es all.2 distinct.0), are_apart xs es all.2 distinct.1)

@@ -1,7 +1,8 @@
 //! Events of attempts.
-ghost use Rattle.std.specs.Prelude.{IfOk};
+ghost use Rattle.std.specs.Prelude.{◌≡◌, IfOk, OnErr};
 ghost use Rattle.boki_types.specs.declared.event.Event.TheVariants as event;
 ghost use Rattle.cluster_run.specs.Attempts.{CanDoAll, DoesAll, DoesToAttempts};
+ghost use Rattle.cluster_run.specs.Killed.{kept_runs_on, running_count, KillsAt, KillsOn};
 
 use boki_flow::{Attempt, Life, Parts};
 use boki_types::{Line, Program};
@@ -10,14 +11,15 @@ use indexmap::IndexMap;
 use lb_base::{Memory, Path};
 use std::alloc::Global;
 
-/// A new attempt under a number that no other has.
+/// A new attempt under a number that no other has. After `Memory` the attempts are as before.
 pub(crate) fn start(
     attempts: &mut IndexMap<u32, Attempt>,
     number: u32,
     path: Path,
     engine: u32,
 ) -> Result<Line, Memory>
-    ensures { IfOk result (DoesToAttempts (event.Start number path engine) attempts.old.entries attempts.new.entries) }
+    ensures done { IfOk result (DoesToAttempts (event.Start number path engine) attempts.old.entries attempts.new.entries) }
+    ensures err { OnErr result (attempts.new.entries ≡ attempts.old.entries) }
 {
     if attempts.contains_key(&number) {
         return Ok(Line::Ignored);
@@ -97,7 +99,7 @@ pub(crate) fn lose_record(attempts: &mut IndexMap<u32, Attempt>, number: u32) ->
     }
 }
 
-/// An engine loses what it had in memory, and its attempts that run are killed.
+/// An engine loses what it had in memory, and its attempts that run are killed. After `Memory` all is as before.
 pub(crate) fn restart(
     program: &Program,
     parts: &mut Parts,
@@ -105,7 +107,9 @@ pub(crate) fn restart(
     engine: u32,
 ) -> Result<Line, Memory>
     requires { CanDoAll program.now.functions (event.Restart engine) parts.old attempts.old.entries }
-    ensures { IfOk result (DoesAll program.now.functions (event.Restart engine) parts.old parts.new attempts.old.entries attempts.new.entries) }
+    ensures done { IfOk result (DoesAll program.now.functions (event.Restart engine) parts.old parts.new attempts.old.entries attempts.new.entries) }
+    ensures parts { OnErr result (parts.new ≡ parts.old) }
+    ensures attempts { OnErr result (attempts.new.entries ≡ attempts.old.entries) }
 {
     let killed = running_on(attempts, engine)?;
     restart_parts(parts, engine);
@@ -114,12 +118,16 @@ pub(crate) fn restart(
 }
 
 /// Whether an attempt runs on the engine.
-fn runs_on(attempt: &Attempt, engine: u32) -> bool {
+fn runs_on(attempt: &Attempt, engine: u32) -> bool
+    ensures { result ≡ kept_runs_on engine attempt.now }
+{
     matches!(attempt.life(), Life::Running) && attempt.engine() == engine
 }
 
 /// How many attempts run on the engine.
-fn running_on(attempts: &IndexMap<u32, Attempt>, engine: u32) -> Result<u32, Memory> {
+fn running_on(attempts: &IndexMap<u32, Attempt>, engine: u32) -> Result<u32, Memory>
+    ensures { IfOk result (λ count. count ≡ running_count engine attempts.now.entries) }
+{
     let mut count: u32 = 0;
     for (_, attempt) in attempts.iter() {
         if runs_on(attempt, engine) {
@@ -133,12 +141,21 @@ fn running_on(attempts: &IndexMap<u32, Attempt>, engine: u32) -> Result<u32, Mem
 }
 
 /// Kills those.
-fn kill_on(attempts: &mut IndexMap<u32, Attempt>, engine: u32) {
+fn kill_on(attempts: &mut IndexMap<u32, Attempt>, engine: u32)
+    ensures { KillsOn engine attempts.old.entries attempts.new.entries }
+{
     for index in 0..attempts.len() {
-        if let Some(attempt) = attempts.get_index_mut(index) {
-            if runs_on(attempt, engine) {
-                attempt.kill();
-            }
+        kill_at(attempts, index, engine);
+    }
+}
+
+/// Kills the attempt at an index if it runs on the engine.
+fn kill_at(attempts: &mut IndexMap<u32, Attempt>, index: usize, engine: u32)
+    ensures { KillsAt engine index attempts.old.entries attempts.new.entries }
+{
+    if let Some(attempt) = attempts.get_index_mut(index) {
+        if runs_on(attempt, engine) {
+            attempt.kill();
         }
     }
 }
