@@ -2,3 +2,5 @@ pub mod Numbered
 pub mod Reached
 pub mod Killing
 pub mod AttemptEvents
+pub mod Applied
+pub mod Whole

@@ -44,12 +44,10 @@ module _ (setup : Setup) (fs : List Function) where
 -- an event that was done to the parts and the attempts was done to the cluster
 pub is_done :
     (setup : Setup) (fs : List Function) (objects : List (List ℕ × Value)) (event : Event) (m : Machine) (old new : ClusterState) (line : Line) → StandsFor setup fs objects m old
-    → new.setup ≡ old.setup → new.names ≡ old.names → IsAllDone setup fs event m new.parts new.attempts line → IsDone setup fs objects event m new line
-is_done setup fs objects event m old new line stands same_setup same_names done = record {
+    → IsAllDone setup fs event m new.parts new.attempts line → IsDone setup fs objects event m new line
+is_done setup fs objects event m old new line stands done = record {
   line_is = done.line_is;
   stands = record {
-    setup_is = same_setup ∙ stands.setup_is;
-    names = same_names ∙ stands.names;
     are = done.all.are;
     attempts = done.all.stand;
     reached = reached_more setup fs objects m stands.reached event done.text;

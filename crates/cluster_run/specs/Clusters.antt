@@ -1,5 +1,5 @@
 -- What a cluster keeps, and the machine that it stands for.
-use Rattle.std.specs.Prelude.{◌≡◌, ℕ, Bool, true, false, List, [], ◌∷◌, map, reverse, length, Result, IfOk, IsErr}
+use Rattle.std.specs.Prelude.{◌≡◌, ℕ, Bool, true, false, List, [], ◌∷◌, reverse, length, Result, IfOk, IsErr}
 use Rattle.std.specs.List.{AllByRecursion}
 use Rattle.lb_base.specs.declared.value.Value.{Value}
 use Rattle.boki_types.specs.declared.event.Event.{Event}
@@ -14,11 +14,9 @@ use Rattle.attempt_state.specs.Attempts.{AttemptStandsFor}
 use Rattle.flow_parts.specs.declared.parts.Parts.{Parts}
 use Rattle.cluster_events.specs.Machines.{PartsAreOf}
 
--- The setup and the names of the functions of its plan, by which a report numbers them; the parts; the attempts by their numbers, in
--- the order in which they were started; and whether a call was cut short, by want of memory, in the middle of an event.
+-- The parts; the attempts by their numbers, in the order in which they were started; and whether a call was cut short, by want of
+-- memory, in the middle of an event.
 pub record ClusterState : Type 0 where
-  pub setup : Setup
-  pub names : List (List ℕ)
   pub parts : Parts
   pub attempts : List (ℕ × AttemptState)
   pub marked : Bool
@@ -37,8 +35,6 @@ pub record IsReached (setup : Setup) (fs : List Function) (objects : List (List 
 
 -- The cluster stands for the machine of a plan with this head.
 pub record StandsFor (setup : Setup) (fs : List Function) (objects : List (List ℕ × Value)) (m : Machine) (c : ClusterState) : Type 0 where
-  pub setup_is : c.setup ≡ setup
-  pub names : c.names ≡ map (λ f. f.name) fs
   pub are : PartsAreOf setup fs m c.parts
   pub attempts : AttemptsStandFor fs (reverse m.attempts) c.attempts
   -- every law over events holds of it
@@ -54,6 +50,11 @@ pub record StandsForSome (c : ClusterState) : Type 0 where
 
 abbrev pub IsSoundCluster : ClusterState → Type 0
 IsSoundCluster c = c.marked ≡ false → StandsForSome c
+
+-- It stands for this machine of a plan with this setup and these functions, whatever the plan's objects are.
+pub record StandsForOne (setup : Setup) (fs : List Function) (m : Machine) (c : ClusterState) : Type 0 where
+  pub objects : List (List ℕ × Value)
+  pub stands : StandsFor setup fs objects m c
 
 -- Where it isn't marked it stands for a machine of this plan: what a call that takes a plan needs.
 pub record StandsForPlan (plan : Plan) (c : ClusterState) : Type 0 where

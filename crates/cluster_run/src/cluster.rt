@@ -1,16 +1,15 @@
+//! The cluster, and the events that happen to it.
 ghost use Rattle.std.specs.Prelude.{◌≡◌, IsTrue, IfOk, IsErr};
 ghost use Rattle.boki_model.specs.Plans.{is_event, is_plan};
-ghost use Rattle.cluster_run.specs.Attempts.{CanDoAll, DoesAll};
 ghost use Rattle.cluster_run.specs.Clusters.{IsOfPlan, IsOpened, DoesEvent, CatchesAllUp, MarksOnMemory};
 
-use crate::attempts::{kill_attempt, lose_record, miss_attempt, restart, start, step_attempt};
+use crate::applying::apply;
 use boki_flow::{Attempt, Parts};
-use boki_types::{Event, Line, Plan, Program, Setup};
+use boki_types::{Event, Line, Plan};
 use book_api::{Book, Gate};
-use cluster_events::{append, aux, catch, catch_all, cond, copy, cut, end_switch, new_parts, next, prev, set_aux};
-use cluster_events::{settled, submit, sweep, switch, sync, tail, trim, trim_tag};
+use cluster_events::{catch_all, new_parts};
 use indexmap::IndexMap;
-use lb_base::{List, Memory, Words};
+use lb_base::Memory;
 use std::alloc::Global;
 use std::marker::Model;
 use std::thread::Threads;
@@ -21,9 +20,6 @@ use std::thread::Threads;
 #[derive(Drop)]
 pub struct Cluster {
     pub(crate) alloc: Global,
-    pub(crate) setup: Setup,
-    /// The names of the plan's functions, by which a report numbers them.
-    pub(crate) names: List<Words>,
     pub(crate) parts: Parts,
     /// The attempts by their numbers, in the order in which they were started.
     pub(crate) attempts: IndexMap<u32, Attempt>,
@@ -35,9 +31,9 @@ impl Model for Cluster {
 
     ghost Value = { ClusterState };
 
-    ghost view = { λ c. record { setup = c.setup; names = c.names; parts = c.parts; attempts = c.attempts.entries; marked = c.marked } };
+    ghost view = { λ c. record { parts = c.parts; attempts = c.attempts.entries; marked = c.marked } };
 
-    ghost invariant = { λ c. IsSoundCluster (record { setup = c.setup; names = c.names; parts = c.parts; attempts = c.attempts.entries; marked = c.marked }) };
+    ghost invariant = { λ c. IsSoundCluster (record { parts = c.parts; attempts = c.attempts.entries; marked = c.marked }) };
 }
 
 impl Cluster {
@@ -48,8 +44,6 @@ impl Cluster {
     {
         Ok(Cluster {
             alloc,
-            setup: plan.setup,
-            names: names_of(alloc, &plan.program)?,
             parts: new_parts(alloc, plan)?,
             attempts: IndexMap::new(alloc),
             marked: false,
@@ -106,76 +100,5 @@ impl Cluster {
         ensures { result.now ≡ self.now.parts.book }
     {
         &self.parts.book
-    }
-}
-
-/// The names of a program's functions.
-fn names_of(alloc: Global, program: &Program) -> Result<List<Words>, Memory> {
-    let mut names = Vec::new(alloc);
-    for function in program.functions.as_slice() {
-        names.push(function.name.clone()?)?;
-    }
-    Ok(List::from_vec(names))
-}
-
-/// What an event does, each by its own function.
-fn apply<R: Threads + Sync, G: Gate + Sync>(
-    alloc: Global,
-    rt: &R,
-    program: &Program,
-    parts: &mut Parts,
-    attempts: &mut IndexMap<u32, Attempt>,
-    event: &Event,
-    gate: &G,
-) -> Result<Line, Memory>
-    requires { CanDoAll program.now.functions event.now parts.old attempts.old.entries }
-    ensures { IfOk result (DoesAll program.now.functions event.now parts.old parts.new attempts.old.entries attempts.new.entries) }
-{
-    match event {
-        Event::Submit {
-            engine,
-            request,
-            function,
-            args,
-        } => submit(alloc, program, parts, *engine, *request, *function, args),
-        Event::Copy { shard, replica, n } => Ok(copy(parts, *shard, *replica, *n)),
-        Event::Cut => cut(parts),
-        Event::Catch { engine } => catch(parts, *engine),
-        Event::Sync => sync(rt, parts, gate),
-        Event::Restart { engine } => restart(program, parts, attempts, *engine),
-        Event::Start {
-            attempt,
-            path,
-            engine,
-        } => start(attempts, *attempt, *path, *engine),
-        Event::Step { attempt } => step_attempt(alloc, program, parts, attempts, *attempt),
-        Event::Kill { attempt } => Ok(kill_attempt(attempts, *attempt)),
-        Event::Lose { attempt } => Ok(lose_record(attempts, *attempt)),
-        Event::Miss { attempt } => miss_attempt(alloc, program, parts, attempts, *attempt),
-        Event::Switch { engine, target } => switch(alloc, parts, *engine, *target),
-        Event::EndSwitch { engine } => end_switch(parts, *engine),
-        Event::Trim { engine } => trim(parts, *engine),
-        Event::Sweep { engine } => sweep(alloc, parts, *engine),
-        Event::Append { engine, tags, text } => {
-            append(alloc, parts, *engine, tags, text)
-        }
-        Event::Cond {
-            engine,
-            place,
-            tags,
-            text,
-        } => cond(alloc, parts, *engine, *place, tags, text),
-        Event::Next { engine, tag, from } => next(alloc, parts, *engine, *tag, *from),
-        Event::Prev { engine, tag, upto } => prev(alloc, parts, *engine, *tag, *upto),
-        Event::Tail { engine, tag } => tail(alloc, parts, *engine, *tag),
-        Event::TrimTag { engine, tag, upto } => trim_tag(alloc, parts, *engine, *tag, *upto),
-        Event::Settled {
-            engine,
-            shard,
-            local,
-        } => Ok(settled(parts, *engine, *shard, *local)),
-        Event::SetAux { engine, seq, text } => set_aux(parts, *engine, *seq, text),
-        Event::GetAux { engine, seq } => aux(alloc, parts, *engine, *seq),
-        Event::Seed { .. } => Ok(Line::Seeded),
     }
 }
