@@ -6,4 +6,6 @@ mod calls;
 #[cfg(test)]
 mod devices;
 #[cfg(test)]
+mod nemeses;
+#[cfg(test)]
 mod words;
