@@ -147,8 +147,8 @@ module _ (fs : List Function) (parts new : Parts) (kept after : AttemptState) (c
 some_same : {X : Type 0} (x y : X) → Some x ≡ Some y → x ≡ y
 some_same x y e = cc
 
-step_path : (p q : List ℕ) (i j : ℕ) → Some (p, i) ≡ Some (q, j) → p ≡ q
-step_path p q i j e = cc
+step_path : (p q : List ℕ) (i j : ℕ) → ◌≡◌ {A = Option (List ℕ × ℕ)} (Some (p, i)) (Some (q, j)) → p ≡ q
+step_path p q i j e = ap (λ (x : List ℕ × ℕ). x.0) (some_same {X = List ℕ × ℕ} (p, i) (q, j) e)
 
 -- The record at its place says this, and the attempt's state behind it is known.
 module _ (fs : List Function) (parts : Parts) (kept : AttemptState) (seq : Seqnum) (body : Body) where
