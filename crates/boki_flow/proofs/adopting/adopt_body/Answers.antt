@@ -1,4 +1,4 @@
-use Rattle.std.proofs.Common.{refl, sym}
+use Rattle.std.proofs.Common.{refl, arith}
 use Rattle.boki_types.specs.declared.body.Body.TheVariants as b
 use Rattle.boki_types.specs.declared.line.StepLine.TheVariants as line
 use Rattle.boki_types.specs.declared.operation.Answer.TheVariants as ans
@@ -302,3 +302,15 @@ returns-in_default-clause-ok c =
     let w = c.in_default in
     adopts_other fs old kept c.args.seq c.args.body.now (no_operation c.args.body.now w.not-Read w.not-ReadGroup w.not-Write w.not-Spawn w.not-Join w.not-Push w.not-Pop w.not-TxnBegin w.not-TxnCommit)
     (adopting_move old c.args.seq.0 c.args.body.now) _
+
+pub overflow_cast-ordinal : goal.overflow_cast-ordinal
+overflow_cast-ordinal c =
+    let has = spawn_child c.args.program.now.functions c.args.parts.now c.args.state.now c.args.seq c.args.body.now c.requires c.in-Spawn.path _ c.in-Spawn.ordinal _ _ c.in-Spawn.is in
+    let small = child_small c.in-Spawn.path (child c.in-Spawn.path c.in-Spawn.ordinal) c.in-Spawn.ordinal has in
+    omega arith
+
+pub overflow_cast-ordinal-in-Join : goal.overflow_cast-ordinal-in-Join
+overflow_cast-ordinal-in-Join c =
+    let has = join_child c.args.program.now.functions c.args.parts.now c.args.state.now c.args.seq c.args.body.now c.requires c.in-Join.path _ c.in-Join.ordinal c.in-Join.is in
+    let small = child_small c.in-Join.path (child c.in-Join.path c.in-Join.ordinal) c.in-Join.ordinal has in
+    omega arith
