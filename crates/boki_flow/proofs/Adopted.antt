@@ -86,10 +86,10 @@ module _ (fs : List Function) (parts : Parts) (kept : AttemptState) where
         let seen = view parts.book a.engine in
         let other = unless_waiting a.waiting a store (script_step setup fs a store seen (next_sent parts.book a.engine) (attempt_ask fs a)) in
         sym (
-          ap (λ (there : Option (Live Body)). adopt_or a store seen there other) found.answers
-          ∙ other_is fs store seen a found.x.seq found.x.holds found.op other (moves a store line.WaitsRecord) (asked_is setup store a stands finds found).is_of
-          ∙ ap (λ (n : ℕ). adopts_operation a store seen n found.x.holds (moves a store line.WaitsRecord)) found.seq_is
-          ∙ ap (λ (said : Body). adopts_operation a store seen seq.0 said (moves a store line.WaitsRecord)) found.says
+        ap (λ (there : Option (Live Body)). adopt_or a store seen there other) found.answers
+        ∙ other_is fs store seen a found.x.seq found.x.holds found.op other (moves a store line.WaitsRecord) (asked_is setup store a stands finds found).is_of
+        ∙ ap (λ (n : ℕ). adopts_operation a store seen n found.x.holds (moves a store line.WaitsRecord)) found.seq_is
+        ∙ ap (λ (said : Body). adopts_operation a store seen seq.0 said (moves a store line.WaitsRecord)) found.says
         );
   }
     where
@@ -111,7 +111,6 @@ pub cut_keeps : (P : Setup → Store → Attempt → Type 0) (move : Setup → S
     → KeepsParts parts new → CutShortBy P move fs parts new kept
 cut_keeps P move fs parts new kept keeps setup store a stands p =
     record { book = keeps.book; parts = inl (keeps.stands setup store stands.parts) }
-
 
 -- what it says that an answer was taken
 abbrev pub AnswerTaken : List Function → Progress → Answer → AttemptState → AttemptState → Type 0
@@ -436,7 +435,7 @@ module _ (fs : List Function) (parts new : Parts) (kept after : AttemptState) (c
       subst (λ (move : Move). IsMoved setup fs a.engine move parts new after told)
       (ap (λ (x : Answer). adopts_answer a store changed.cursor.0 x (line.AdoptPop changed.cursor queue v)) answer_is
       ∙ ap (λ (w : Value). adopts_answer a store changed.cursor.0 (ans.Value w) (line.AdoptPop changed.cursor queue w))
-        (e ∙ ap (λ (records : List (Live Body)). front queue (queues (records_below changed.cursor.0 records))) (view_is a is)))
+      (e ∙ ap (λ (records : List (Live Body)). front queue (queues (records_below changed.cursor.0 records))) (view_is a is)))
       (answers_so fs parts new kept after changed answer (line.AdoptPop changed.cursor queue v) told keeps told_is taken setup store a stands taking.script changed.cursor.0 is)
 
   pub begin_takes : (names : List (List ℕ)) (vs : List Value) (at : Progress)
@@ -449,7 +448,7 @@ module _ (fs : List Function) (parts new : Parts) (kept after : AttemptState) (c
       subst (λ (move : Move). IsMoved setup fs a.engine move parts new after told)
       (ap (λ (x : Answer). adopts_answer t store changed.cursor.0 x (line.AdoptBegin changed.cursor (zip names vs))) answer_is
       ∙ ap (λ (ws : List Value). adopts_answer t store changed.cursor.0 (ans.Values ws) (line.AdoptBegin changed.cursor (zip names ws)))
-        (e ∙ ap (λ (records : List (Live Body)). values_of_names names (store_values (commits (records_below changed.cursor.0 records)))) (view_is a is)))
+      (e ∙ ap (λ (records : List (Live Body)). values_of_names names (store_values (commits (records_below changed.cursor.0 records)))) (view_is a is)))
       (answers_with fs parts new kept after at answer (line.AdoptBegin changed.cursor (zip names vs)) told keeps told_is taken setup store a stands taking.script changed.cursor.0
       (Some changed.cursor.0) (at_is ∙ ap (λ (p : Progress). record p { transaction = Some changed.cursor }) is))
 
@@ -463,6 +462,6 @@ module _ (fs : List Function) (parts new : Parts) (kept after : AttemptState) (c
       subst (λ (move : Move). IsMoved setup fs a.engine move parts new after told)
       (ap (λ (x : Answer). adopts_answer t store changed.cursor.0 x (line.AdoptCommit changed.cursor good)) answer_is
       ∙ ap (λ (b : Bool). adopts_answer t store changed.cursor.0 (ans.Committed b) (line.AdoptCommit changed.cursor b))
-        (e ∙ ap (is_committed changed.cursor.0) (view_is a is)))
+      (e ∙ ap (is_committed changed.cursor.0) (view_is a is)))
       (answers_with fs parts new kept after at answer (line.AdoptCommit changed.cursor good) told keeps told_is taken setup store a stands taking.script changed.cursor.0
       None (at_is ∙ ap (λ (p : Progress). record p { transaction = None }) is))
