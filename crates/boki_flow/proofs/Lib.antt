@@ -5,6 +5,7 @@ pub mod Leading
 pub mod StepCases
 pub mod Misses
 pub mod Adopted
+pub mod Marked
 pub mod CacheFolds
 pub mod Beginning
 pub mod SentAsks
