@@ -10,3 +10,4 @@ pub mod Beginning
 pub mod SentAsks
 pub mod SentJoins
 pub mod ScriptCases
+pub mod Taken
