@@ -1,4 +1,4 @@
-use Rattle.std.proofs.Common.{◌≡◌, ◌∙◌, ℕ, List, length, refl, sym, ap, rules}
+use Rattle.std.proofs.Common.{◌≡◌, ◌∙◌, Some, length, refl, ap, rules}
 use Rattle.std.specs.Prelude.{zip}
 use Rattle.lb_base.specs.declared.value.Value.{Value}
 use Rattle.boki_types.specs.declared.line.StepLine.TheVariants as line
@@ -55,12 +55,12 @@ returns-clause-ok c =
     let at = c.args.changed in
     let names = c.args.names.now in
     let vs = c.in_ok-values.values in
-    let open = record at { transaction = Some at.cursor } in
+    let begun = record at { transaction = Some at.cursor } in
     let values_is : vs ≡ values_of_names names (store_values (commits (records_below at.cursor.0 (view old.book at.engine)))) = search rules in
     let pairs_is : c.in_ok-pairs.pairs ≡ zip names vs = search rules in
-    taken_ok (TakesAnswer fs (k.Op (o.Begin names)) at) (begun_move old at names) fs old new kept c.take_answer.new.state open (ans.Values vs)
+    taken_ok (TakesAnswer fs (k.Op (o.Begin names)) at) (begun_move old at names) fs old new kept c.take_answer.new.state begun (ans.Values vs)
     (line.AdoptBegin at.cursor c.in_ok-pairs.pairs) c.take_answer.result c.take_answer.ensures.line c.take_answer.ensures.after (λ told said taken.
-    begin_takes fs old new kept c.take_answer.new.state at (ans.Values vs) told c.begun_values.ensures.parts names vs open
+    begin_takes fs old new kept c.take_answer.new.state at (ans.Values vs) told c.begun_values.ensures.parts names vs begun
     values_is refl (said ∙ ap (line.AdoptBegin at.cursor) pairs_is) refl taken)
 
 pub returns-clause-cut : goal.returns-clause-cut

@@ -36,8 +36,8 @@ take_answer-requires-clause-room c =
     let r = c.requires in
     taking_room c.args.program.now.functions c.args.parts.now c.args.state.now c.args.changed r.setup r.store r.attempt r.stands (o.Join c.args.ordinal) r.holds
 
-pub returns-in_err-last_finish-clause-cut : goal.returns-in_err-last_finish-clause-cut
-returns-in_err-last_finish-clause-cut c =
+pub returns-in_err-outcome-clause-cut : goal.returns-in_err-outcome-clause-cut
+returns-in_err-outcome-clause-cut c =
     on_err c.from_residual.result (cut_keeps (TakesAnswer c.args.program.now.functions (k.Op (o.Join c.args.ordinal)) c.args.changed) (joined_move c.args.parts.now c.args.changed c.args.ordinal)
     c.args.program.now.functions c.args.parts.now c.args.parts.now c.args.state.now (keeps_parts c.args.parts.now))
 
@@ -58,7 +58,7 @@ returns-in_ok-copy_outcome-in-Some-clause-ok c =
     taken_ok (TakesAnswer fs (k.Op (o.Join c.args.ordinal)) at) (joined_move old at c.args.ordinal) fs old old kept c.take_answer.new.state at answer
     (line.AdoptJoin at.cursor c.child-path.result outcome) c.take_answer.result c.take_answer.ensures.line c.take_answer.ensures.after (λ told said taken.
     join_takes fs old old kept c.take_answer.new.state at answer told (keeps_parts old) c.args.ordinal c.child-path.result c.child-path.ensures outcome
-    (sym c.in-Some.is ∙ c.in_ok-last_finish.ensures) (ap ans.Joined copied) said taken)
+    (sym c.in-Some.is ∙ c.in_ok-outcome.ensures) (ap ans.Joined copied) said taken)
 
 pub returns-in_ok-copy_outcome-in-Some-clause-cut : goal.returns-in_ok-copy_outcome-in-Some-clause-cut
 returns-in_ok-copy_outcome-in-Some-clause-cut c =
@@ -69,4 +69,4 @@ pub returns-in-None-clause-ok : goal.returns-in-None-clause-ok
 returns-in-None-clause-ok c =
     let old = c.args.parts.now in
     join_waits c.args.program.now.functions old old c.args.state.now c.args.state.now c.args.changed ans.Done line.Idle (keeps_parts old) c.args.ordinal c.child-path.result c.child-path.ensures
-    (sym c.in-None.is ∙ c.in_ok-last_finish.ensures)
+    (sym c.in-None.is ∙ c.in_ok-outcome.ensures)
