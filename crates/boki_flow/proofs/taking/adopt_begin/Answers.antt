@@ -1,6 +1,5 @@
 use Rattle.std.proofs.Common.{◌≡◌, ◌∙◌, Some, length, refl, ap, rules}
 use Rattle.std.specs.Prelude.{zip}
-use Rattle.lb_base.specs.declared.value.Value.{Value}
 use Rattle.boki_types.specs.declared.line.StepLine.TheVariants as line
 use Rattle.boki_types.specs.declared.operation.Answer.TheVariants as ans
 use Rattle.boki_types.specs.declared.operation.Ask.TheVariants as k
@@ -10,7 +9,7 @@ use Rattle.boki_machine.specs.Step.{records_below}
 use Rattle.step_log.specs.Sound.{view}
 use Rattle.boki_flow.specs.Arms.{TakesAnswer, begun_move}
 use Rattle.boki_flow.proofs.Standing.{on_err}
-use Rattle.boki_flow.proofs.Adopted.{cut_keeps, keeps_parts, taking_engine, taking_room, taking_few, taking_takes, values_count, begin_takes}
+use Rattle.boki_flow.proofs.Adopted.{cut_keeps, taking_engine, taking_room, taking_few, taking_takes, values_count, begin_takes}
 use Rattle.boki_flow.proofs.Taken.{taken_ok}
 use Rattle.boki_flow.proofs.taking.adopt_begin.Goals as goal
 

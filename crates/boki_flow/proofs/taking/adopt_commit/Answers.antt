@@ -1,4 +1,4 @@
-use Rattle.std.proofs.Common.{◌≡◌, ◌∙◌, None, true, refl, sym, ap}
+use Rattle.std.proofs.Common.{None, true, refl}
 use Rattle.boki_types.specs.declared.line.StepLine.TheVariants as line
 use Rattle.boki_types.specs.declared.operation.Answer.TheVariants as ans
 use Rattle.boki_types.specs.declared.operation.Op.TheVariants as o

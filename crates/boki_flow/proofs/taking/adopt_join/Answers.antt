@@ -1,5 +1,4 @@
-use Rattle.std.proofs.Common.{◌≡◌, ◌∙◌, refl, sym, ap, rules}
-use Rattle.lb_base.specs.declared.value.Outcome.{Outcome}
+use Rattle.std.proofs.Common.{◌≡◌, ◌∙◌, sym, ap, rules}
 use Rattle.boki_types.specs.declared.line.StepLine.TheVariants as line
 use Rattle.boki_types.specs.declared.operation.Answer.TheVariants as ans
 use Rattle.boki_types.specs.declared.operation.Ask.TheVariants as k

@@ -1,11 +1,8 @@
-use Rattle.std.proofs.Common.{◌≡◌, ◌∙◌, ℕ, List, Some, refl, sym, ap, rules}
-use Rattle.lb_base.specs.declared.value.Value.{Value}
-use Rattle.boki_types.specs.declared.body.Body.{Body}
+use Rattle.std.proofs.Common.{◌≡◌, ◌∙◌, ℕ, List, Some, sym, ap, rules}
 use Rattle.boki_types.specs.declared.line.StepLine.TheVariants as line
 use Rattle.boki_types.specs.declared.operation.Answer.TheVariants as ans
 use Rattle.boki_types.specs.declared.operation.Op.TheVariants as o
 use Rattle.boki_model.specs.Folds.{queues, front}
-use Rattle.boki_model.specs.Live.{Live}
 use Rattle.boki_machine.specs.Step.{records_below}
 use Rattle.boki_queue.specs.QueueStates.{popped_at}
 use Rattle.step_log.specs.Sound.{view}
