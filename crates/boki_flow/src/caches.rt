@@ -12,8 +12,8 @@ ghost use Rattle.hm_switch.specs.SwitchStates.{Follows};
 ghost use Rattle.step_log.specs.Sound.{Sound, view};
 ghost use Rattle.flow_parts.specs.Parts.{HasEngineParts, KeepsParts, PartsStandFor};
 
-use flow_parts::Parts;
 use book_api::Book;
+use flow_parts::Parts;
 use hm_switch::SwitchView;
 use lb_base::{List, Memory, Mode, Seqnum, Value, Words};
 
@@ -29,12 +29,7 @@ pub(crate) fn mode_at(parts: &mut Parts, engine: u32, seq: Seqnum) -> Result<Mod
 }
 
 /// The same of a view of switches, which goes on to the engine's position.
-fn mode_in(
-    switches: &mut SwitchView,
-    book: &Book,
-    engine: u32,
-    seq: Seqnum,
-) -> Result<Mode, Memory>
+fn mode_in(switches: &mut SwitchView, book: &Book, engine: u32, seq: Seqnum) -> Result<Mode, Memory>
     requires engine { HasEngine engine book.now }
     requires sound { Sound book.now }
     requires follows { Follows book.now engine switches.old }

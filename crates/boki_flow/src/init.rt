@@ -7,10 +7,10 @@ ghost use Rattle.step_log.specs.Sound.{view};
 ghost use Rattle.boki_flow.specs.Arms.{CanFlowIf, MovesBy, CutShortBy, IsCalledBy, init_move, adopts_init};
 
 use crate::caches::mode_at;
-use flow_parts::Parts;
 use attempt_log::send_init;
 use attempt_state::AttemptState;
 use boki_types::{Call, Program, StepLine};
+use flow_parts::Parts;
 use lb_base::{Memory, Seqnum};
 use std::alloc::Global;
 use step_log::at as record_at;
@@ -43,11 +43,7 @@ pub(crate) fn step_init(
 }
 
 /// The seqnum of the first record of the attempt's step log, where its engine sees one.
-fn init_at(
-    alloc: Global,
-    parts: &Parts,
-    state: &AttemptState,
-) -> Result<Option<Seqnum>, Memory>
+fn init_at(alloc: Global, parts: &Parts, state: &AttemptState) -> Result<Option<Seqnum>, Memory>
     requires { HasEngine state.now.progress.engine parts.now.book }
     ensures { IfOk result (λ found. option_map (λ s. s.0) found
         ≡ option_map (λ x. x.seq) (nth (step_tag state.now.progress.path) 0 (view parts.now.book state.now.progress.engine))) }

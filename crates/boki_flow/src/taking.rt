@@ -6,10 +6,10 @@ ghost use Rattle.boki_flow.specs.Arms.{TakesAnswer, TakesPop, TakesCommit, CanFl
 ghost use Rattle.boki_flow.specs.Arms.{joined_move, popped_move, begun_move, committed_move};
 
 use crate::caches::{begun_values, is_committed, pop_value};
-use flow_parts::Parts;
-use attempt_store::{pairs_of, take_answer};
 use attempt_state::{AttemptState, Progress, child, copy_outcome};
+use attempt_store::{pairs_of, take_answer};
 use boki_types::{Answer, Program, StepLine};
+use flow_parts::Parts;
 use lb_base::{List, Memory, Words};
 use std::alloc::Global;
 use step_log::last_finish;
@@ -114,5 +114,12 @@ pub(crate) fn adopt_commit(
         transaction: None,
         ..changed
     };
-    take_answer(alloc, program, state, changed, Answer::Committed(good), line)
+    take_answer(
+        alloc,
+        program,
+        state,
+        changed,
+        Answer::Committed(good),
+        line,
+    )
 }
