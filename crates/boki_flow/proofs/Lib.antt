@@ -11,3 +11,4 @@ pub mod Beginning
 pub mod SentAsks
 pub mod SentJoins
 pub mod ScriptCases
+pub mod Taken
