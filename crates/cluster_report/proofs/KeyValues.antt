@@ -1,5 +1,5 @@
 -- What is told of the known keys.
-use Rattle.std.proofs.Common.{◌≡◌, ℕ, suc, ◌≤◌, ltb, cond, List, [], ◌∷◌, ◌++◌, append-nil, Option, Some, None, refl, sym, ap, ◌∙◌}
+use Rattle.std.proofs.Common.{◌≡◌, ℕ, suc, ◌≤◌, cond, List, [], ◌∷◌, ◌++◌, append-nil, Option, Some, None, refl, sym, ap, ◌∙◌}
 use Rattle.std.proofs.lemmas.Bool.{le-ltb}
 use Rattle.std.proofs.lemmas.List.{append_assoc}
 use Rattle.lb_base.specs.declared.value.Value.{Value}

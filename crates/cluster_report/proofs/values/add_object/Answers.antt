@@ -1,4 +1,4 @@
-use Rattle.std.proofs.Common.{◌≡◌, ⊎_elim, ◌∙◌, ◌++◌, suc, Option, Some, option_map, [], sym, ap, subst, rules}
+use Rattle.std.proofs.Common.{◌≡◌, ⊎_elim, ◌∙◌, ◌++◌, suc, Option, option_map, [], sym, ap, subst, rules}
 use Rattle.std.specs.Option.{option_copied}
 use Rattle.std.proofs.lemmas.Result.{on_ok_weaker}
 use Rattle.lb_base.specs.declared.value.Value.{Value}
