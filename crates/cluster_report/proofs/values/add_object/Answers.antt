@@ -17,7 +17,7 @@ returns-in-Found c = on_ok_weaker c.push.result (λ pushed m records can last.
     let key = c.args.key.now in
     let known = last_is_told c.args.store.now m records key (suc c.args.last.0) (option_copied c.as_ref.result) can.kept.stands can.kept.values parts in
     let read = ap found (c.read_free.ensures.read m records can.kept.stands (subst (λ k. IsLastLogged k (suc c.args.last.0) c.args.store.now records (option_copied c.as_ref.result)) (sym name) known))
-        ∙ ap (λ k. found (read_free k c.args.last.0 m records)) name ∙ found_upto key c.args.last.0 m records can.within in
+    ∙ ap (λ k. found (read_free k c.args.last.0 m records)) name ∙ found_upto key c.args.last.0 m records can.within in
     let is = sym (ap (λ r. found (fenced_of r)) c.in-Found.is) ∙ read in
     pushed ∙ ap (λ (o : Option Value). c.args.values.now ++ add_value key o []) is) c.push.ensures
 
@@ -29,7 +29,7 @@ returns-in-Missing c = λ m records can last.
     let key = c.args.key.now in
     let known = last_is_told c.args.store.now m records key (suc c.args.last.0) (option_copied c.as_ref.result) can.kept.stands can.kept.values parts in
     let read = ap found (c.read_free.ensures.read m records can.kept.stands (subst (λ k. IsLastLogged k (suc c.args.last.0) c.args.store.now records (option_copied c.as_ref.result)) (sym name) known))
-        ∙ ap (λ k. found (read_free k c.args.last.0 m records)) name ∙ found_upto key c.args.last.0 m records can.within in
+    ∙ ap (λ k. found (read_free k c.args.last.0 m records)) name ∙ found_upto key c.args.last.0 m records can.within in
     let none = ⊎_elim (λ is. ap (λ r. found (fenced_of r)) is) (λ is. ap (λ r. found (fenced_of r)) is) c.in-Missing.is in
     let is = sym none ∙ read in
     nothing_told key _ c.args.values.now is
