@@ -1,5 +1,5 @@
 -- An attempt adopts the record at its place.
-use Rattle.std.proofs.Common.{◌≡◌, ◌∙◌, ◌⊎◌, inl, inr, ℕ, suc, ◌<◌, ◌≤◌, Bool, true, false, cond, ltb, List, [], ◌∷◌, ◌+◌, ◌^◌, ◌++◌, ◌&&◌, length, Option, Some, None, option_map, Result, Ok, Err, IfOk, OnErr, refl, sym, ap, subst, arith}
+use Rattle.std.proofs.Common.{◌≡◌, ◌∙◌, inl, ℕ, suc, ◌<◌, ◌≤◌, Bool, true, false, cond, ltb, List, [], ◌∷◌, ◌+◌, ◌^◌, ◌++◌, ◌&&◌, length, Option, Some, None, option_map, Result, Ok, Err, IfOk, refl, sym, ap, subst, arith}
 use Rattle.std.proofs.lemmas.Bool.Decides.{nat_tests}
 use Rattle.std.specs.Prelude.{zip}
 use Rattle.std.specs.Option.{option_map_or, option_and_then}
@@ -13,7 +13,6 @@ use Rattle.boki_types.specs.declared.line.StepLine.{StepLine}
 use Rattle.boki_types.specs.declared.line.StepLine.TheVariants as line
 use Rattle.boki_types.specs.declared.operation.Answer.{Answer}
 use Rattle.boki_types.specs.declared.operation.Answer.TheVariants as ans
-use Rattle.boki_types.specs.declared.operation.Ask.{Ask}
 use Rattle.boki_types.specs.declared.operation.Ask.TheVariants as k
 use Rattle.boki_types.specs.declared.operation.Op.{Op}
 use Rattle.boki_types.specs.declared.operation.Op.TheVariants as o
@@ -21,38 +20,33 @@ use Rattle.boki_types.specs.declared.plan.Setup.{Setup}
 use Rattle.boki_types.specs.declared.program.Function.{Function}
 use Rattle.boki_model.specs.Bodies.{step_tag, step_of, child}
 use Rattle.boki_model.specs.Folds.{queues, front, commits, store_values, values_of_names}
-use Rattle.boki_model.specs.Live.{Live, LogRecord}
+use Rattle.boki_model.specs.Live.{Live}
 use Rattle.boki_model.specs.Modes.{result_of}
 use Rattle.boki_model.specs.Reads.{nth}
-use Rattle.boki_model.specs.Writes.{Store, read_fenced, after_read_fenced, raise_fences}
-use Rattle.boki_machine.specs.Attempt.{Attempt, Move, moves, adopts, answered_with, next_index}
-use Rattle.boki_machine.specs.Step.{seqnum, records_below, is_committed, fenced_value, read_all, stop_gone, adopts_answer, adopts_marker, adopts_join, adopts_operation, continue_step, unless_waiting, script_step, attempt_ask, answers_to, adopt_or}
+use Rattle.boki_model.specs.Writes.{Store}
+use Rattle.boki_machine.specs.Attempt.{Attempt, Move, moves, adopts, next_index}
+use Rattle.boki_machine.specs.Step.{seqnum, records_below, is_committed, adopts_answer, adopts_join, adopts_operation, unless_waiting, script_step, attempt_ask, adopt_or}
 use Rattle.machine_laws.specs.Adopts.{AdoptsAsked, RecordsOperation, adopted_answer}
 use Rattle.machine_laws.specs.Children.{HasPath}
 use Rattle.machine_laws.specs.Ends.{finish_in, last_tagged}
 use Rattle.script_run.specs.Answering.{Takes, IsOfKind}
 use Rattle.book_api.specs.Books.{HasEngine, position, next_sent}
-use Rattle.step_log.specs.Sound.{live_bodies, view, seqnum_and_body}
-use Rattle.hm_read.specs.Kept.{IsKept, AreKept}
-use Rattle.obj_store.specs.Kept.{StoreState}
+use Rattle.step_log.specs.Sound.{view, seqnum_and_body}
 use Rattle.fold_cache.proofs.Found.{found_recorded, below_among, view_falls}
 use Rattle.log_folds.proofs.ByTag.{of_tag}
 use Rattle.log_folds.specs.Bounds.{record_at}
-use Rattle.boki_queue.specs.QueueStates.{popped_at, popped_of}
-use Rattle.boki_txn.specs.TxnStates.{commits_at, is_commit}
+use Rattle.boki_queue.specs.QueueStates.{popped_of}
+use Rattle.boki_txn.specs.TxnStates.{is_commit}
 use Rattle.attempt_state.specs.declared.progress.Progress.{Progress}
 use Rattle.attempt_state.specs.declared.state.AttemptState.{AttemptState}
-use Rattle.attempt_state.specs.Attempts.{AttemptStandsFor, FrameTakes, HasScript, SameScript}
+use Rattle.attempt_state.specs.Attempts.{AttemptStandsFor, FrameTakes, HasScript}
 use Rattle.attempt_state.specs.Progresses.{progress_of, adopted_progress}
-use Rattle.attempt_store.specs.Moved.{CanReadAt, EitherKept, FrameAsks, MovesStore, after_marker}
 use Rattle.flow_parts.specs.declared.parts.Parts.{Parts}
-use Rattle.flow_parts.specs.Parts.{PartsStandFor, IsCutShort, HasEngineParts, KeepsParts}
+use Rattle.flow_parts.specs.Parts.{HasEngineParts, KeepsParts}
 use Rattle.boki_flow.specs.Flow.{FlowStandsFor, IsMoved}
-use Rattle.boki_flow.specs.Arms.{FindsAnswer, IsAdopting, AdoptsBody, IsTaking, IsTakingCommit, TakesAnswer, TakesPop, TakesCommit, AsksMarked, IsAnswerTaken, CanFlowIf, MovesBy, CutShortBy, marked_move, group_move, next_move, adopting_move, joined_move, popped_move, begun_move, committed_move}
-use Rattle.flow_parts.proofs.Appended.{stored_stands}
-use Rattle.boki_flow.proofs.Moves.{store_moves}
+use Rattle.boki_flow.specs.Arms.{FindsAnswer, IsAdopting, AdoptsBody, IsTaking, TakesAnswer, TakesPop, TakesCommit, AsksMarked, IsAnswerTaken, CanFlowIf, MovesBy, CutShortBy, marked_move, group_move, next_move, adopting_move, joined_move, popped_move, begun_move, committed_move}
 use Rattle.boki_flow.proofs.Leading.{Leads}
-use Rattle.boki_flow.proofs.Standing.{engine_is, has_engine, few, room, frame_asks, frame_takes, weaker_ok, weaker_err}
+use Rattle.boki_flow.proofs.Standing.{engine_is, has_engine, few, room, frame_takes}
 use Rattle.boki_flow.proofs.StepCases.{Found, found_there, found_none, stays}
 
 -- What follows where no record is of the operation isn't looked at.
@@ -92,10 +86,10 @@ module _ (fs : List Function) (parts : Parts) (kept : AttemptState) where
         let seen = view parts.book a.engine in
         let other = unless_waiting a.waiting a store (script_step setup fs a store seen (next_sent parts.book a.engine) (attempt_ask fs a)) in
         sym (
-          ap (λ (there : Option (Live Body)). adopt_or a store seen there other) found.answers
-          ∙ other_is fs store seen a found.x.seq found.x.holds found.op other (moves a store line.WaitsRecord) (asked_is setup store a stands finds found).is_of
-          ∙ ap (λ (n : ℕ). adopts_operation a store seen n found.x.holds (moves a store line.WaitsRecord)) found.seq_is
-          ∙ ap (λ (said : Body). adopts_operation a store seen seq.0 said (moves a store line.WaitsRecord)) found.says
+        ap (λ (there : Option (Live Body)). adopt_or a store seen there other) found.answers
+        ∙ other_is fs store seen a found.x.seq found.x.holds found.op other (moves a store line.WaitsRecord) (asked_is setup store a stands finds found).is_of
+        ∙ ap (λ (n : ℕ). adopts_operation a store seen n found.x.holds (moves a store line.WaitsRecord)) found.seq_is
+        ∙ ap (λ (said : Body). adopts_operation a store seen seq.0 said (moves a store line.WaitsRecord)) found.says
         );
   }
     where
@@ -147,8 +141,8 @@ module _ (fs : List Function) (parts new : Parts) (kept after : AttemptState) (c
 some_same : {X : Type 0} (x y : X) → Some x ≡ Some y → x ≡ y
 some_same x y e = cc
 
-step_path : (p q : List ℕ) (i j : ℕ) → Some (p, i) ≡ Some (q, j) → p ≡ q
-step_path p q i j e = cc
+step_path : (p q : List ℕ) (i j : ℕ) → ◌≡◌ {A = Option (List ℕ × ℕ)} (Some (p, i)) (Some (q, j)) → p ≡ q
+step_path p q i j e = ap (λ (x : List ℕ × ℕ). x.0) (some_same {X = List ℕ × ℕ} (p, i) (q, j) e)
 
 -- The record at its place says this, and the attempt's state behind it is known.
 module _ (fs : List Function) (parts : Parts) (kept : AttemptState) (seq : Seqnum) (body : Body) where
@@ -359,53 +353,6 @@ child_small path child ordinal is = at (ltb 0 ordinal) (ltb ordinal 4096) (ltb (
     at true false third e is = absurd (let z : ⊥ = cc in z)
     at false false third e is = absurd (let z : ⊥ = cc in z)
 
--- What the calls of markers need.
-module _ (fs : List Function) (parts : Parts) (kept : AttemptState) (seq : ℕ) (op : Op) (can : CanFlowIf (AsksMarked fs parts op seq) fs parts kept) where
-  pub marker_asks : FrameAsks kept.frame (k.Op op)
-  marker_asks = frame_asks can.setup fs can.store can.attempt parts kept can.stands can.holds.0.script (k.Op op) can.holds.0.asks
-
-  pub marker_reads : CanReadAt parts.book parts.store kept.progress.engine seq
-  marker_reads = record {
-    store = can.store;
-    are = can.stands.parts.kept;
-    covered = subst (λ (engine : ℕ). seq ≤ position parts.book engine) (sym (engine_is can.setup fs can.store can.attempt parts kept can.stands)) can.holds.1;
-  }
-
--- The markers' moves, by what their calls say.
-module _ (fs : List Function) (parts : Parts) (kept after : AttemptState) (stored : StoreState) (seq : ℕ) (op : Op) (keys : List (List ℕ))
-    (answer : Store → Attempt → Answer) (l : Store → Attempt → StepLine) {E : Type 0} (result : Result StepLine E) where
-  abbrev marker_move : Setup → Store → Attempt → Move
-  marker_move setup store a = adopts_marker a store seq keys (answer store a) (l store a)
-
-  pub marker_moves : IfOk result (λ told. (m : Store) (a : Attempt) → AreKept parts.book parts.store m → AttemptStandsFor fs a kept → HasScript a → seq ≤ position parts.book a.engine
-      → MovesStore fs (live_bodies parts.book) stored (adopts_marker a m seq keys (answer m a) (l m a)) after told)
-      → IfOk result (MovesBy (AsksMarked fs parts op seq) marker_move fs parts (record parts { store = stored }) kept after)
-  marker_moves did = weaker_ok result _ _ did (λ told moved setup store a stands asks.
-      store_moves setup fs a.engine store parts stands.parts (marker_move setup store a) after told stored
-      (sends_none (ltb seq store.floor) (stop_gone a store) (adopts_answer a (after_read_fenced keys seq store) seq (answer store a) (l store a)) refl refl)
-      (moved store a stands.parts.kept stands.attempt asks.0.script asks.1))
-    where
-      sends_none : (low : Bool) (first second : Move) → first.sends ≡ None → second.sends ≡ None → (cond low first second).sends ≡ None
-      sends_none true first second e f = e
-      sends_none false first second e f = f
-
-  pub marker_cut : OnErr result ((m : Store) (a : Attempt) → AreKept parts.book parts.store m → AttemptStandsFor fs a kept → seq ≤ position parts.book a.engine
-      → EitherKept stored m (after_marker seq keys m) (live_bodies parts.book))
-      → OnErr result (CutShortBy (AsksMarked fs parts op seq) marker_move fs parts (record parts { store = stored }) kept)
-  marker_cut did = weaker_err result did (λ cut setup store a stands asks.
-      record { book = refl; parts = by setup store a stands (cut store a stands.parts.kept stands.attempt asks.1) })
-    where
-      stores_by : (store : Store) (a : Attempt) (low : Bool) (second : Move) → cond low store second.store ≡ (cond low (stop_gone a store) second).store
-      stores_by store a true second = refl
-      stores_by store a false second = refl
-
-      by : (setup : Setup) (store : Store) (a : Attempt) → FlowStandsFor setup fs store a parts kept → EitherKept stored store (after_marker seq keys store) (live_bodies parts.book)
-          → PartsStandFor setup store (record parts { store = stored }) ⊎ PartsStandFor setup (marker_move setup store a).store (record parts { store = stored })
-      by setup store a stands (inl before) = inl (stored_stands setup store parts stands.parts stored store before)
-      by setup store a stands (inr behind) = inr (subst (λ (m : Store). PartsStandFor setup m (record parts { store = stored }))
-          (stores_by store a (ltb seq store.floor) (adopts_answer a (after_read_fenced keys seq store) seq (answer store a) (l store a)))
-          (stored_stands setup store parts stands.parts stored (after_marker seq keys store) behind))
-
 -- What a call needs of an attempt that takes an answer.
 module _ (fs : List Function) (parts : Parts) (kept : AttemptState) (changed : Progress) where
   -- its premise says that it takes one
@@ -488,7 +435,7 @@ module _ (fs : List Function) (parts new : Parts) (kept after : AttemptState) (c
       subst (λ (move : Move). IsMoved setup fs a.engine move parts new after told)
       (ap (λ (x : Answer). adopts_answer a store changed.cursor.0 x (line.AdoptPop changed.cursor queue v)) answer_is
       ∙ ap (λ (w : Value). adopts_answer a store changed.cursor.0 (ans.Value w) (line.AdoptPop changed.cursor queue w))
-        (e ∙ ap (λ (records : List (Live Body)). front queue (queues (records_below changed.cursor.0 records))) (view_is a is)))
+      (e ∙ ap (λ (records : List (Live Body)). front queue (queues (records_below changed.cursor.0 records))) (view_is a is)))
       (answers_so fs parts new kept after changed answer (line.AdoptPop changed.cursor queue v) told keeps told_is taken setup store a stands taking.script changed.cursor.0 is)
 
   pub begin_takes : (names : List (List ℕ)) (vs : List Value) (at : Progress)
@@ -501,7 +448,7 @@ module _ (fs : List Function) (parts new : Parts) (kept after : AttemptState) (c
       subst (λ (move : Move). IsMoved setup fs a.engine move parts new after told)
       (ap (λ (x : Answer). adopts_answer t store changed.cursor.0 x (line.AdoptBegin changed.cursor (zip names vs))) answer_is
       ∙ ap (λ (ws : List Value). adopts_answer t store changed.cursor.0 (ans.Values ws) (line.AdoptBegin changed.cursor (zip names ws)))
-        (e ∙ ap (λ (records : List (Live Body)). values_of_names names (store_values (commits (records_below changed.cursor.0 records)))) (view_is a is)))
+      (e ∙ ap (λ (records : List (Live Body)). values_of_names names (store_values (commits (records_below changed.cursor.0 records)))) (view_is a is)))
       (answers_with fs parts new kept after at answer (line.AdoptBegin changed.cursor (zip names vs)) told keeps told_is taken setup store a stands taking.script changed.cursor.0
       (Some changed.cursor.0) (at_is ∙ ap (λ (p : Progress). record p { transaction = Some changed.cursor }) is))
 
@@ -515,6 +462,6 @@ module _ (fs : List Function) (parts new : Parts) (kept after : AttemptState) (c
       subst (λ (move : Move). IsMoved setup fs a.engine move parts new after told)
       (ap (λ (x : Answer). adopts_answer t store changed.cursor.0 x (line.AdoptCommit changed.cursor good)) answer_is
       ∙ ap (λ (b : Bool). adopts_answer t store changed.cursor.0 (ans.Committed b) (line.AdoptCommit changed.cursor b))
-        (e ∙ ap (is_committed changed.cursor.0) (view_is a is)))
+      (e ∙ ap (is_committed changed.cursor.0) (view_is a is)))
       (answers_with fs parts new kept after at answer (line.AdoptCommit changed.cursor good) told keeps told_is taken setup store a stands taking.script changed.cursor.0
       None (at_is ∙ ap (λ (p : Progress). record p { transaction = None }) is))

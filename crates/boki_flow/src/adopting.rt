@@ -6,10 +6,10 @@ ghost use Rattle.boki_flow.specs.Arms.{next_move, adopting_move, marked_move, gr
 
 use crate::answering::{answer_push, answer_spawn, answer_write};
 use crate::taking::{adopt_begin, adopt_commit, adopt_join, adopt_pop};
-use flow_parts::Parts;
-use attempt_store::{adopt_group, adopt_read};
 use attempt_state::AttemptState;
+use attempt_store::{adopt_group, adopt_read};
 use boki_types::{Body, Program, StepLine};
+use flow_parts::Parts;
 use lb_base::{List, Memory, Seqnum, Words};
 use std::alloc::Global;
 use step_log::at as record_at;
@@ -90,7 +90,15 @@ fn adopt_marker(
     ensures cut { OnErr result (CutShortBy (AsksMarked program.now.functions parts.old (o.Read key.now) seq.0)
         (marked_move parts.old seq.0 key.now) program.now.functions parts.old parts.new state.old) }
 {
-    adopt_read(alloc, program, &parts.book, &mut parts.store, state, seq, key)
+    adopt_read(
+        alloc,
+        program,
+        &parts.book,
+        &mut parts.store,
+        state,
+        seq,
+        key,
+    )
 }
 
 /// The same of a marker of several objects.
@@ -109,5 +117,13 @@ fn adopt_markers(
     ensures cut { OnErr result (CutShortBy (AsksMarked program.now.functions parts.old (o.ReadGroup keys.now) seq.0)
         (group_move parts.old seq.0 keys.now) program.now.functions parts.old parts.new state.old) }
 {
-    adopt_group(alloc, program, &parts.book, &mut parts.store, state, seq, keys)
+    adopt_group(
+        alloc,
+        program,
+        &parts.book,
+        &mut parts.store,
+        state,
+        seq,
+        keys,
+    )
 }

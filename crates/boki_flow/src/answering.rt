@@ -7,8 +7,8 @@ ghost use Rattle.boki_model.specs.Bodies as bodies;
 ghost use Rattle.attempt_state.specs.Attempts.{FrameTakes};
 ghost use Rattle.boki_flow.specs.Arms.{IsAnswerTaken};
 
-use attempt_store::take_answer;
 use attempt_state::{AttemptState, Progress, child};
+use attempt_store::take_answer;
 use boki_types::{Answer, Program, StepLine};
 use lb_base::{Memory, Path, Words};
 use std::alloc::Global;
@@ -50,7 +50,14 @@ pub(crate) fn answer_spawn(
     ensures err { OnErr result (state.new ≡ state.old) }
 {
     let line = StepLine::AdoptSpawn(changed.cursor, child(path, ordinal));
-    take_answer(alloc, program, state, changed, Answer::Spawned(ordinal), line)
+    take_answer(
+        alloc,
+        program,
+        state,
+        changed,
+        Answer::Spawned(ordinal),
+        line,
+    )
 }
 
 /// A value is put at the end of a queue.

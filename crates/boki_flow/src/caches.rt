@@ -1,4 +1,5 @@
-//! What an engine keeps: the switches as far as it has seen them, and the queues and the transactions behind some records.
+//! What an engine keeps: the switches as far as it has seen them, and the queues and the
+//! transactions behind some records.
 ghost use Rattle.std.specs.Prelude.{◌≡◌, true, Some, IfOk};
 ghost use Rattle.boki_types.specs.declared.plan.Setup.{Setup};
 ghost use Rattle.boki_model.specs.Modes.{mode_after};
@@ -12,15 +13,16 @@ ghost use Rattle.hm_switch.specs.SwitchStates.{Follows};
 ghost use Rattle.step_log.specs.Sound.{Sound, view};
 ghost use Rattle.flow_parts.specs.Parts.{HasEngineParts, KeepsParts, PartsStandFor};
 
-use flow_parts::Parts;
 use book_api::Book;
+use flow_parts::Parts;
 use hm_switch::SwitchView;
 use lb_base::{List, Memory, Mode, Seqnum, Value, Words};
 
 /// The mode of an invocation that begins at a seqnum.
 pub(crate) fn mode_at(parts: &mut Parts, engine: u32, seq: Seqnum) -> Result<Mode, Memory>
     requires { HasEngineParts engine parts.old }
-    ensures mode { IfOk result (λ mode. (setup : Setup) (store : Store) → PartsStandFor setup store parts.old
+    ensures mode { IfOk result (λ mode. (setup : Setup) (store : Store)
+        → PartsStandFor setup store parts.old
         → mode ≡ mode_after setup.mode (records_below seq.0 (view parts.old.book engine))) }
     ensures parts { KeepsParts parts.old parts.new }
 {
@@ -29,16 +31,12 @@ pub(crate) fn mode_at(parts: &mut Parts, engine: u32, seq: Seqnum) -> Result<Mod
 }
 
 /// The same of a view of switches, which goes on to the engine's position.
-fn mode_in(
-    switches: &mut SwitchView,
-    book: &Book,
-    engine: u32,
-    seq: Seqnum,
-) -> Result<Mode, Memory>
+fn mode_in(switches: &mut SwitchView, book: &Book, engine: u32, seq: Seqnum) -> Result<Mode, Memory>
     requires engine { HasEngine engine book.now }
     requires sound { Sound book.now }
     requires follows { Follows book.now engine switches.old }
-    ensures mode { IfOk result (λ mode. mode ≡ mode_after switches.old.first (records_below seq.0 (view book.now engine))) }
+    ensures mode { IfOk result (λ mode. mode
+        ≡ mode_after switches.old.first (records_below seq.0 (view book.now engine))) }
     ensures first { switches.new.first ≡ switches.old.first }
     ensures follows { Follows book.now engine switches.new }
 {
@@ -55,7 +53,8 @@ pub(crate) fn pop_value(
 ) -> Result<Value, Memory>
     requires engine { HasEngineParts engine parts.old }
     requires pop { popped_at seq.0 (view parts.old.book engine) ≡ Some queue.now }
-    ensures value { IfOk result (λ value. value ≡ front queue.now (queues (records_below seq.0 (view parts.old.book engine)))) }
+    ensures value { IfOk result (λ value. value
+        ≡ front queue.now (queues (records_below seq.0 (view parts.old.book engine)))) }
     ensures parts { KeepsParts parts.old parts.new }
 {
     let cache = &mut parts.queues[(engine - 1) as usize];
@@ -70,7 +69,8 @@ pub(crate) fn begun_values(
     names: &[Words],
 ) -> Result<List<Value>, Memory>
     requires { HasEngineParts engine parts.old }
-    ensures values { IfOk result (λ values. values ≡ values_of_names names.now (store_values (commits (records_below seq.0 (view parts.old.book engine))))) }
+    ensures values { IfOk result (λ values. values ≡ values_of_names names.now
+        (store_values (commits (records_below seq.0 (view parts.old.book engine))))) }
     ensures parts { KeepsParts parts.old parts.new }
 {
     let cache = &mut parts.txns[(engine - 1) as usize];

@@ -1,15 +1,17 @@
-//! An attempt adopts a join, a pop, a begin or a commit: what it takes is by what its engine sees or keeps.
+//! An attempt adopts a join, a pop, a begin or a commit: what it takes is by what its engine sees
+//! or keeps.
 ghost use Rattle.std.specs.Prelude.{◌≡◌, OnErr, IfOk};
 ghost use Rattle.boki_types.specs.declared.operation.Ask.TheVariants as k;
 ghost use Rattle.boki_types.specs.declared.operation.Op.TheVariants as o;
-ghost use Rattle.boki_flow.specs.Arms.{TakesAnswer, TakesPop, TakesCommit, CanFlowIf, MovesBy, CutShortBy};
+ghost use Rattle.boki_flow.specs.Arms.{TakesAnswer, TakesPop, TakesCommit};
+ghost use Rattle.boki_flow.specs.Arms.{CanFlowIf, MovesBy, CutShortBy};
 ghost use Rattle.boki_flow.specs.Arms.{joined_move, popped_move, begun_move, committed_move};
 
 use crate::caches::{begun_values, is_committed, pop_value};
-use flow_parts::Parts;
-use attempt_store::{pairs_of, take_answer};
 use attempt_state::{AttemptState, Progress, child, copy_outcome};
+use attempt_store::{pairs_of, take_answer};
 use boki_types::{Answer, Program, StepLine};
+use flow_parts::Parts;
 use lb_base::{List, Memory, Words};
 use std::alloc::Global;
 use step_log::last_finish;
@@ -23,12 +25,17 @@ pub(crate) fn adopt_join(
     changed: Progress,
     ordinal: u32,
 ) -> Result<StepLine, Memory>
-    requires { CanFlowIf (TakesAnswer program.now.functions (k.Op (o.Join ordinal)) changed) program.now.functions parts.old state.old }
-    ensures ok { IfOk result (MovesBy (TakesAnswer program.now.functions (k.Op (o.Join ordinal)) changed)
-        (joined_move parts.old changed ordinal) program.now.functions parts.old parts.new state.old state.new) }
+    requires { CanFlowIf (TakesAnswer program.now.functions (k.Op (o.Join ordinal)) changed)
+        program.now.functions parts.old state.old }
+    ensures ok { IfOk result (MovesBy
+        (TakesAnswer program.now.functions (k.Op (o.Join ordinal)) changed)
+        (joined_move parts.old changed ordinal)
+        program.now.functions parts.old parts.new state.old state.new) }
     ensures err { OnErr result (state.new ≡ state.old) }
-    ensures cut { OnErr result (CutShortBy (TakesAnswer program.now.functions (k.Op (o.Join ordinal)) changed)
-        (joined_move parts.old changed ordinal) program.now.functions parts.old parts.new state.old) }
+    ensures cut { OnErr result (CutShortBy
+        (TakesAnswer program.now.functions (k.Op (o.Join ordinal)) changed)
+        (joined_move parts.old changed ordinal)
+        program.now.functions parts.old parts.new state.old) }
 {
     let path = child(changed.path, ordinal);
     match last_finish(alloc, &parts.book, changed.engine, path)? {
@@ -50,12 +57,17 @@ pub(crate) fn adopt_pop(
     changed: Progress,
     queue: &Words,
 ) -> Result<StepLine, Memory>
-    requires { CanFlowIf (TakesPop program.now.functions parts.old queue.now changed) program.now.functions parts.old state.old }
-    ensures ok { IfOk result (MovesBy (TakesPop program.now.functions parts.old queue.now changed)
-        (popped_move parts.old changed queue.now) program.now.functions parts.old parts.new state.old state.new) }
+    requires { CanFlowIf (TakesPop program.now.functions parts.old queue.now changed)
+        program.now.functions parts.old state.old }
+    ensures ok { IfOk result (MovesBy
+        (TakesPop program.now.functions parts.old queue.now changed)
+        (popped_move parts.old changed queue.now)
+        program.now.functions parts.old parts.new state.old state.new) }
     ensures err { OnErr result (state.new ≡ state.old) }
-    ensures cut { OnErr result (CutShortBy (TakesPop program.now.functions parts.old queue.now changed)
-        (popped_move parts.old changed queue.now) program.now.functions parts.old parts.new state.old) }
+    ensures cut { OnErr result (CutShortBy
+        (TakesPop program.now.functions parts.old queue.now changed)
+        (popped_move parts.old changed queue.now)
+        program.now.functions parts.old parts.new state.old) }
 {
     let seq = changed.cursor;
     let name = queue.clone()?;
@@ -74,12 +86,17 @@ pub(crate) fn adopt_begin(
     changed: Progress,
     names: &List<Words>,
 ) -> Result<StepLine, Memory>
-    requires { CanFlowIf (TakesAnswer program.now.functions (k.Op (o.Begin names.now)) changed) program.now.functions parts.old state.old }
-    ensures ok { IfOk result (MovesBy (TakesAnswer program.now.functions (k.Op (o.Begin names.now)) changed)
-        (begun_move parts.old changed names.now) program.now.functions parts.old parts.new state.old state.new) }
+    requires { CanFlowIf (TakesAnswer program.now.functions (k.Op (o.Begin names.now)) changed)
+        program.now.functions parts.old state.old }
+    ensures ok { IfOk result (MovesBy
+        (TakesAnswer program.now.functions (k.Op (o.Begin names.now)) changed)
+        (begun_move parts.old changed names.now)
+        program.now.functions parts.old parts.new state.old state.new) }
     ensures err { OnErr result (state.new ≡ state.old) }
-    ensures cut { OnErr result (CutShortBy (TakesAnswer program.now.functions (k.Op (o.Begin names.now)) changed)
-        (begun_move parts.old changed names.now) program.now.functions parts.old parts.new state.old) }
+    ensures cut { OnErr result (CutShortBy
+        (TakesAnswer program.now.functions (k.Op (o.Begin names.now)) changed)
+        (begun_move parts.old changed names.now)
+        program.now.functions parts.old parts.new state.old) }
 {
     let seq = changed.cursor;
     let values = begun_values(parts, changed.engine, seq, names.as_slice())?;
@@ -100,12 +117,17 @@ pub(crate) fn adopt_commit(
     state: &mut AttemptState,
     changed: Progress,
 ) -> Result<StepLine, Memory>
-    requires { CanFlowIf (TakesCommit program.now.functions parts.old changed) program.now.functions parts.old state.old }
-    ensures ok { IfOk result (MovesBy (TakesCommit program.now.functions parts.old changed)
-        (committed_move parts.old changed) program.now.functions parts.old parts.new state.old state.new) }
+    requires { CanFlowIf (TakesCommit program.now.functions parts.old changed)
+        program.now.functions parts.old state.old }
+    ensures ok { IfOk result (MovesBy
+        (TakesCommit program.now.functions parts.old changed)
+        (committed_move parts.old changed)
+        program.now.functions parts.old parts.new state.old state.new) }
     ensures err { OnErr result (state.new ≡ state.old) }
-    ensures cut { OnErr result (CutShortBy (TakesCommit program.now.functions parts.old changed)
-        (committed_move parts.old changed) program.now.functions parts.old parts.new state.old) }
+    ensures cut { OnErr result (CutShortBy
+        (TakesCommit program.now.functions parts.old changed)
+        (committed_move parts.old changed)
+        program.now.functions parts.old parts.new state.old) }
 {
     let seq = changed.cursor;
     let good = is_committed(parts, changed.engine, seq)?;
@@ -114,5 +136,12 @@ pub(crate) fn adopt_commit(
         transaction: None,
         ..changed
     };
-    take_answer(alloc, program, state, changed, Answer::Committed(good), line)
+    take_answer(
+        alloc,
+        program,
+        state,
+        changed,
+        Answer::Committed(good),
+        line,
+    )
 }

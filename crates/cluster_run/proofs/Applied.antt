@@ -33,6 +33,12 @@ can_do fs event parts attempts can = record { setup = can.setup; machine = can.m
 pub can_do_any : (fs : List Function) (event : Event) (parts : Parts) → CanDo fs event parts → CanDoAny event parts
 can_do_any fs event parts can = record { functions = fs; can = can }
 
+-- what is done whatever the functions are is done for these
+pub if_done_for :
+    {E : Type 0} (r : Result Line E) (fs : List Function) (event : Event) (old new : Parts) → IfOk r (DoesEventAny event old new)
+    → IfOk r (DoesEvent fs event old new)
+if_done_for r fs event old new does = IfOk-weaker r (DoesEventAny event old new) (DoesEvent fs event old new) (λ line any. any fs) does
+
 -- Attempts stay as they are.
 
 module _ (m : Machine) where

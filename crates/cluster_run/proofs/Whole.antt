@@ -184,3 +184,27 @@ module _ (setup : Setup) (fs : List Function) (m : Machine) (c : ClusterState) (
   pub objects_are :
       HoldingIsReported → (xs : List (List ℕ × Value)) → ((s : Store) → CanReport c.parts.book c.parts.store s → xs ≡ objects_in s c.parts.book) → xs ≡ (report fs m).objects
   objects_are law xs told = let is = reported law in told m.store is.can ∙ ap (λ (r : Report). r.objects) is.same
+
+-- What was told of a book and a store is told of each machine that the cluster stands for.
+module _ (c now : ClusterState) (is : c ≡ now) (law : HoldingIsReported) where
+  module _ (setup : Setup) (fs : List Function) where
+    pub if_report_told :
+        {E : Type 0} (r : Result Report E)
+        → IfOk r (λ x. (s : Store) → CanReport c.parts.book c.parts.store s → x ≡ report_in fs s c.parts.book)
+        → IfOk r (λ x. (m : Machine) → StandsForOne setup fs m now → x ≡ report fs m)
+    if_report_told r told =
+        IfOk-weaker r _ _ (λ x told m one. report_is setup fs m c (subst (StandsForOne setup fs m) (sym is) one) law x told) told
+
+    pub if_turns_told :
+        {E : Type 0} (r : Result (List Turn) E)
+        → IfOk r (λ ts. (s : Store) → CanReport c.parts.book c.parts.store s → ts ≡ turns fs s.versions (live_bodies c.parts.book))
+        → IfOk r (λ ts. (m : Machine) → StandsForOne setup fs m now → ts ≡ (report fs m).turns)
+    if_turns_told r told =
+        IfOk-weaker r _ _ (λ ts told m one. turns_are setup fs m c (subst (StandsForOne setup fs m) (sym is) one) law ts told) told
+
+  pub if_objects_told :
+      {E : Type 0} (r : Result (List (List ℕ × Value)) E)
+      → IfOk r (λ xs. (s : Store) → CanReport c.parts.book c.parts.store s → xs ≡ objects_in s c.parts.book)
+      → IfOk r (λ xs. (setup : Setup) (fs : List Function) (m : Machine) → StandsForOne setup fs m now → xs ≡ (report fs m).objects)
+  if_objects_told r told =
+      IfOk-weaker r _ _ (λ xs told setup fs m one. objects_are setup fs m c (subst (StandsForOne setup fs m) (sym is) one) law xs told) told

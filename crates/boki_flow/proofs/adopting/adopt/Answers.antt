@@ -2,7 +2,6 @@ use Rattle.std.proofs.Common.{◌∙◌, sym}
 use Rattle.boki_flow.specs.Arms.{FindsAnswer, AdoptsBody, next_move, adopting_move}
 use Rattle.boki_flow.proofs.Leading.{can_if, leads_moves, leads_cut}
 use Rattle.boki_flow.proofs.Standing.{has_engine}
-use Rattle.boki_flow.proofs.StepCases.{cut_before}
 use Rattle.boki_flow.proofs.Adopted.{adopts_found, adopts_none}
 use Rattle.boki_flow.proofs.adopting.adopt.Goals as goal
 

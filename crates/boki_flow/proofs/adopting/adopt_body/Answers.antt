@@ -1,4 +1,4 @@
-use Rattle.std.proofs.Common.{refl, sym}
+use Rattle.std.proofs.Common.{refl, arith}
 use Rattle.boki_types.specs.declared.body.Body.TheVariants as b
 use Rattle.boki_types.specs.declared.line.StepLine.TheVariants as line
 use Rattle.boki_types.specs.declared.operation.Answer.TheVariants as ans
@@ -164,141 +164,92 @@ returns-in-TxnCommit-clause-cut c =
 
 pub answer_write-requires-clause-few : goal.answer_write-requires-clause-few
 answer_write-requires-clause-few c =
-    let fs = c.args.program.now.functions in
-    let old = c.args.parts.now in
-    let kept = c.args.state.now in
-    let at = c.in_ok-changed.changed in
-    adopting_few fs old kept c.args.seq c.args.body.now c.requires
+    adopting_few c.args.program.now.functions c.args.parts.now c.args.state.now c.args.seq c.args.body.now c.requires
 
 pub answer_write-requires-clause-takes : goal.answer_write-requires-clause-takes
 answer_write-requires-clause-takes c =
-    let fs = c.args.program.now.functions in
-    let old = c.args.parts.now in
-    let kept = c.args.state.now in
-    let at = c.in_ok-changed.changed in
-    adopting_takes fs old kept c.args.seq c.args.body.now c.requires ans.Done (b.Write _ _ _ c.in-Write.key _) c.in-Write.is (λ store seen. refl)
+    adopting_takes c.args.program.now.functions c.args.parts.now c.args.state.now c.args.seq c.args.body.now c.requires ans.Done (b.Write _ _ _ c.in-Write.key _) c.in-Write.is (λ store seen. refl)
 
 pub answer_write-requires-clause-room : goal.answer_write-requires-clause-room
 answer_write-requires-clause-room c =
-    let fs = c.args.program.now.functions in
-    let old = c.args.parts.now in
-    let kept = c.args.state.now in
-    let at = c.in_ok-changed.changed in
-    adopting_room fs old kept c.args.seq c.args.body.now c.requires at c.in_ok-changed.ensures
+    adopting_room c.args.program.now.functions c.args.parts.now c.args.state.now c.args.seq c.args.body.now c.requires c.in_ok-changed.changed c.in_ok-changed.ensures
 
 pub returns-in-Write-clause-ok : goal.returns-in-Write-clause-ok
 returns-in-Write-clause-ok c =
-    let fs = c.args.program.now.functions in
-    let old = c.args.parts.now in
-    let kept = c.args.state.now in
-    let at = c.in_ok-changed.changed in
-    answers_alone fs old kept c.args.seq c.args.body.now ans.Done (λ seq. line.AdoptWrite seq c.in-Write.key) c.answer_write.new.state at (b.Write _ _ _ c.in-Write.key _) c.in-Write.is c.in_ok-changed.ensures (λ store a. refl)
+    answers_alone c.args.program.now.functions c.args.parts.now c.args.state.now c.args.seq c.args.body.now ans.Done (λ seq. line.AdoptWrite seq c.in-Write.key) c.answer_write.new.state c.in_ok-changed.changed (b.Write _ _ _ c.in-Write.key _) c.in-Write.is c.in_ok-changed.ensures (λ store a. refl)
     c.answer_write.result c.answer_write.ensures.line c.answer_write.ensures.after
 
 pub returns-in-Write-clause-cut : goal.returns-in-Write-clause-cut
 returns-in-Write-clause-cut c =
     let fs = c.args.program.now.functions in
     let old = c.args.parts.now in
-    let kept = c.args.state.now in
-    let at = c.in_ok-changed.changed in
-    on_err c.answer_write.result (cut_before (AdoptsBody fs old c.args.seq.0 c.args.body.now) (adopting_move old c.args.seq.0 c.args.body.now) fs old kept)
+    on_err c.answer_write.result (cut_before (AdoptsBody fs old c.args.seq.0 c.args.body.now) (adopting_move old c.args.seq.0 c.args.body.now) fs old c.args.state.now)
 
 pub answer_spawn-requires-clause-few : goal.answer_spawn-requires-clause-few
 answer_spawn-requires-clause-few c =
-    let fs = c.args.program.now.functions in
-    let old = c.args.parts.now in
-    let kept = c.args.state.now in
-    let at = c.in_ok-changed.changed in
-    adopting_few fs old kept c.args.seq c.args.body.now c.requires
+    adopting_few c.args.program.now.functions c.args.parts.now c.args.state.now c.args.seq c.args.body.now c.requires
 
 pub answer_spawn-requires-clause-takes : goal.answer_spawn-requires-clause-takes
 answer_spawn-requires-clause-takes c =
-    let fs = c.args.program.now.functions in
-    let old = c.args.parts.now in
-    let kept = c.args.state.now in
-    let at = c.in_ok-changed.changed in
-    adopting_takes fs old kept c.args.seq c.args.body.now c.requires (ans.Spawned c.in-Spawn.ordinal) (b.Spawn c.in-Spawn.path _ c.in-Spawn.ordinal _ _) c.in-Spawn.is (λ store seen. refl)
+    adopting_takes c.args.program.now.functions c.args.parts.now c.args.state.now c.args.seq c.args.body.now c.requires (ans.Spawned c.in-Spawn.ordinal) (b.Spawn c.in-Spawn.path _ c.in-Spawn.ordinal _ _) c.in-Spawn.is (λ store seen. refl)
 
 pub answer_spawn-requires-clause-room : goal.answer_spawn-requires-clause-room
 answer_spawn-requires-clause-room c =
-    let fs = c.args.program.now.functions in
-    let old = c.args.parts.now in
-    let kept = c.args.state.now in
-    let at = c.in_ok-changed.changed in
-    adopting_room fs old kept c.args.seq c.args.body.now c.requires at c.in_ok-changed.ensures
+    adopting_room c.args.program.now.functions c.args.parts.now c.args.state.now c.args.seq c.args.body.now c.requires c.in_ok-changed.changed c.in_ok-changed.ensures
 
 pub answer_spawn-requires-clause-child : goal.answer_spawn-requires-clause-child
 answer_spawn-requires-clause-child c =
-    let fs = c.args.program.now.functions in
-    let old = c.args.parts.now in
-    let kept = c.args.state.now in
-    let at = c.in_ok-changed.changed in
-    spawn_child fs old kept c.args.seq c.args.body.now c.requires c.in-Spawn.path _ c.in-Spawn.ordinal _ _ c.in-Spawn.is
+    spawn_child c.args.program.now.functions c.args.parts.now c.args.state.now c.args.seq c.args.body.now c.requires c.in-Spawn.path _ c.in-Spawn.ordinal _ _ c.in-Spawn.is
 
 pub returns-in-Spawn-clause-ok : goal.returns-in-Spawn-clause-ok
 returns-in-Spawn-clause-ok c =
-    let fs = c.args.program.now.functions in
-    let old = c.args.parts.now in
-    let kept = c.args.state.now in
-    let at = c.in_ok-changed.changed in
-    answers_alone fs old kept c.args.seq c.args.body.now (ans.Spawned c.in-Spawn.ordinal) (λ seq. line.AdoptSpawn seq (child c.in-Spawn.path c.in-Spawn.ordinal)) c.answer_spawn.new.state at (b.Spawn c.in-Spawn.path _ c.in-Spawn.ordinal _ _) c.in-Spawn.is c.in_ok-changed.ensures (λ store a. refl)
+    answers_alone c.args.program.now.functions c.args.parts.now c.args.state.now c.args.seq c.args.body.now (ans.Spawned c.in-Spawn.ordinal) (λ seq. line.AdoptSpawn seq (child c.in-Spawn.path c.in-Spawn.ordinal)) c.answer_spawn.new.state c.in_ok-changed.changed (b.Spawn c.in-Spawn.path _ c.in-Spawn.ordinal _ _) c.in-Spawn.is c.in_ok-changed.ensures (λ store a. refl)
     c.answer_spawn.result c.answer_spawn.ensures.line c.answer_spawn.ensures.after
 
 pub returns-in-Spawn-clause-cut : goal.returns-in-Spawn-clause-cut
 returns-in-Spawn-clause-cut c =
     let fs = c.args.program.now.functions in
     let old = c.args.parts.now in
-    let kept = c.args.state.now in
-    let at = c.in_ok-changed.changed in
-    on_err c.answer_spawn.result (cut_before (AdoptsBody fs old c.args.seq.0 c.args.body.now) (adopting_move old c.args.seq.0 c.args.body.now) fs old kept)
+    on_err c.answer_spawn.result (cut_before (AdoptsBody fs old c.args.seq.0 c.args.body.now) (adopting_move old c.args.seq.0 c.args.body.now) fs old c.args.state.now)
 
 pub answer_push-requires-clause-few : goal.answer_push-requires-clause-few
 answer_push-requires-clause-few c =
-    let fs = c.args.program.now.functions in
-    let old = c.args.parts.now in
-    let kept = c.args.state.now in
-    let at = c.in_ok-changed.changed in
-    adopting_few fs old kept c.args.seq c.args.body.now c.requires
+    adopting_few c.args.program.now.functions c.args.parts.now c.args.state.now c.args.seq c.args.body.now c.requires
 
 pub answer_push-requires-clause-takes : goal.answer_push-requires-clause-takes
 answer_push-requires-clause-takes c =
-    let fs = c.args.program.now.functions in
-    let old = c.args.parts.now in
-    let kept = c.args.state.now in
-    let at = c.in_ok-changed.changed in
-    adopting_takes fs old kept c.args.seq c.args.body.now c.requires ans.Done (b.Push _ _ c.in-Push.queue _) c.in-Push.is (λ store seen. refl)
+    adopting_takes c.args.program.now.functions c.args.parts.now c.args.state.now c.args.seq c.args.body.now c.requires ans.Done (b.Push _ _ c.in-Push.queue _) c.in-Push.is (λ store seen. refl)
 
 pub answer_push-requires-clause-room : goal.answer_push-requires-clause-room
 answer_push-requires-clause-room c =
-    let fs = c.args.program.now.functions in
-    let old = c.args.parts.now in
-    let kept = c.args.state.now in
-    let at = c.in_ok-changed.changed in
-    adopting_room fs old kept c.args.seq c.args.body.now c.requires at c.in_ok-changed.ensures
+    adopting_room c.args.program.now.functions c.args.parts.now c.args.state.now c.args.seq c.args.body.now c.requires c.in_ok-changed.changed c.in_ok-changed.ensures
 
 pub returns-in-Push-clause-ok : goal.returns-in-Push-clause-ok
 returns-in-Push-clause-ok c =
-    let fs = c.args.program.now.functions in
-    let old = c.args.parts.now in
-    let kept = c.args.state.now in
-    let at = c.in_ok-changed.changed in
-    answers_alone fs old kept c.args.seq c.args.body.now ans.Done (λ seq. line.AdoptPush seq c.in-Push.queue) c.answer_push.new.state at (b.Push _ _ c.in-Push.queue _) c.in-Push.is c.in_ok-changed.ensures (λ store a. refl)
+    answers_alone c.args.program.now.functions c.args.parts.now c.args.state.now c.args.seq c.args.body.now ans.Done (λ seq. line.AdoptPush seq c.in-Push.queue) c.answer_push.new.state c.in_ok-changed.changed (b.Push _ _ c.in-Push.queue _) c.in-Push.is c.in_ok-changed.ensures (λ store a. refl)
     c.answer_push.result c.answer_push.ensures.line c.answer_push.ensures.after
 
 pub returns-in-Push-clause-cut : goal.returns-in-Push-clause-cut
 returns-in-Push-clause-cut c =
     let fs = c.args.program.now.functions in
     let old = c.args.parts.now in
-    let kept = c.args.state.now in
-    let at = c.in_ok-changed.changed in
-    on_err c.answer_push.result (cut_before (AdoptsBody fs old c.args.seq.0 c.args.body.now) (adopting_move old c.args.seq.0 c.args.body.now) fs old kept)
+    on_err c.answer_push.result (cut_before (AdoptsBody fs old c.args.seq.0 c.args.body.now) (adopting_move old c.args.seq.0 c.args.body.now) fs old c.args.state.now)
 
 pub returns-in_default-clause-ok : goal.returns-in_default-clause-ok
 returns-in_default-clause-ok c =
-    let fs = c.args.program.now.functions in
     let old = c.args.parts.now in
-    let kept = c.args.state.now in
-    let at = c.in_ok-changed.changed in
     let w = c.in_default in
-    adopts_other fs old kept c.args.seq c.args.body.now (no_operation c.args.body.now w.not-Read w.not-ReadGroup w.not-Write w.not-Spawn w.not-Join w.not-Push w.not-Pop w.not-TxnBegin w.not-TxnCommit)
+    adopts_other c.args.program.now.functions old c.args.state.now c.args.seq c.args.body.now (no_operation c.args.body.now w.not-Read w.not-ReadGroup w.not-Write w.not-Spawn w.not-Join w.not-Push w.not-Pop w.not-TxnBegin w.not-TxnCommit)
     (adopting_move old c.args.seq.0 c.args.body.now) _
+
+pub overflow_cast-ordinal : goal.overflow_cast-ordinal
+overflow_cast-ordinal c =
+    let has = spawn_child c.args.program.now.functions c.args.parts.now c.args.state.now c.args.seq c.args.body.now c.requires c.in-Spawn.path _ c.in-Spawn.ordinal _ _ c.in-Spawn.is in
+    let small = child_small c.in-Spawn.path (child c.in-Spawn.path c.in-Spawn.ordinal) c.in-Spawn.ordinal has in
+    omega arith
+
+pub overflow_cast-ordinal-in-Join : goal.overflow_cast-ordinal-in-Join
+overflow_cast-ordinal-in-Join c =
+    let has = join_child c.args.program.now.functions c.args.parts.now c.args.state.now c.args.seq c.args.body.now c.requires c.in-Join.path _ c.in-Join.ordinal c.in-Join.is in
+    let small = child_small c.in-Join.path (child c.in-Join.path c.in-Join.ordinal) c.in-Join.ordinal has in
+    omega arith

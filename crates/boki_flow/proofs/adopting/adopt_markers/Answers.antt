@@ -6,7 +6,7 @@ use Rattle.boki_model.specs.Writes.{read_fenced}
 use Rattle.boki_machine.specs.Step.{read_all, seqnum}
 use Rattle.step_log.specs.Sound.{view}
 use Rattle.boki_flow.proofs.Standing.{has_engine, few, room}
-use Rattle.boki_flow.proofs.Adopted.{marker_asks, marker_reads, marker_moves, marker_cut}
+use Rattle.boki_flow.proofs.Marked.{marker_asks, marker_reads, marker_moves, marker_cut}
 use Rattle.boki_flow.proofs.adopting.adopt_markers.Goals as goal
 
 pub adopt_group-requires-clause-engine : goal.adopt_group-requires-clause-engine

@@ -1,4 +1,4 @@
-use Rattle.std.proofs.Common.{◌≡◌, ◌∙◌, ℕ, suc, ◌-◌, ◌<◌, List, length, refl, sym, ap, subst, arith}
+use Rattle.std.proofs.Common.{◌-◌, ◌<◌, List, length, refl, sym, subst, arith}
 use Rattle.step_log.specs.Sound.{live_bodies}
 use Rattle.fold_cache.specs.Kept.{KeptState}
 use Rattle.boki_txn.specs.Names.{StoredNames}

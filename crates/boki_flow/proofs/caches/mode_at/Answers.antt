@@ -1,4 +1,4 @@
-use Rattle.std.proofs.Common.{◌≡◌, ◌∙◌, ℕ, suc, ◌-◌, ◌<◌, List, length, refl, sym, ap, subst, arith}
+use Rattle.std.proofs.Common.{◌≡◌, ◌∙◌, ℕ, suc, ◌-◌, ◌<◌, length, refl, sym, ap, subst, arith}
 use Rattle.lb_base.specs.declared.value.Mode.{Mode}
 use Rattle.boki_model.specs.Modes.{mode_after}
 use Rattle.boki_machine.specs.Step.{records_below}

@@ -1,5 +1,4 @@
-use Rattle.std.proofs.Common.{◌≡◌, ◌∙◌, ℕ, refl, sym, ap, subst}
-use Rattle.boki_types.specs.declared.line.StepLine.TheVariants as line
+use Rattle.std.proofs.Common.{◌≡◌, ◌∙◌, ℕ, refl, ap}
 use Rattle.boki_model.specs.Modes.{mode_after}
 use Rattle.boki_machine.specs.Step.{records_below}
 use Rattle.step_log.specs.Sound.{view}

@@ -1,4 +1,4 @@
-use Rattle.std.proofs.Common.{◌≡◌, ◌∙◌, option_map, refl, sym, ap}
+use Rattle.std.proofs.Common.{◌∙◌, option_map, refl, sym, ap}
 use Rattle.lb_base.specs.declared.value.Seqnum.{Seqnum}
 use Rattle.attempt_state.specs.declared.progress.Progress.{Progress}
 use Rattle.boki_flow.specs.Arms.{IsCalledBy, init_move, adopts_init}
