@@ -8,4 +8,6 @@ mod devices;
 #[cfg(test)]
 mod nemeses;
 #[cfg(test)]
+mod steady;
+#[cfg(test)]
 mod words;
