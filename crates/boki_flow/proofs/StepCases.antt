@@ -35,7 +35,7 @@ use Rattle.book_api.specs.Books.{position, next_sent}
 use Rattle.step_log.specs.Sound.{view, seqnum_and_body}
 use Rattle.flow_parts.specs.declared.parts.Parts.{Parts}
 use Rattle.boki_flow.specs.Flow.{FlowStandsFor, IsMoved}
-use Rattle.boki_flow.specs.Arms.{Always, Runs, HasBegun, FindsAnswer, IsCalled, MovesBy, CutShortBy, step_move, running_move, unended_move, next_move}
+use Rattle.boki_flow.specs.Arms.{Always, Runs, HasBegun, FindsAnswer, IsCalled, MovesBy, CutShortBy, step_move, running_move, unended_move, next_move, script_move, init_move}
 use Rattle.boki_flow.proofs.Leading.{Leads}
 use Rattle.boki_flow.proofs.Standing.{Asks, asking}
 
@@ -168,11 +168,7 @@ module _ (fs : List Function) (parts : Parts) (kept : AttemptState) where
       (sym (ap (λ (call : Option Call). step_when_called setup fs a store seen at None call) (call_is a None stands.attempt e)))
       (stays setup fs store a parts kept line.WaitsCall stands)
 
-  abbrev pub init_move : Call → Setup → Store → Attempt → Move
-  init_move call setup store a =
-      init_step setup fs a store (view parts.book a.engine) (next_sent parts.book a.engine) call (nth (step_tag a.path) 0 (view parts.book a.engine))
-
-  pub begins : (call : Call) → kept.progress.place ≡ 0 → Called (Some call) → Leads Runs (λ setup store a. IsCalled parts call a) (unended_move fs parts) (init_move call) fs parts kept
+  pub begins : (call : Call) → kept.progress.place ≡ 0 → Called (Some call) → Leads Runs (λ setup store a. IsCalled parts call a) (unended_move fs parts) (init_move fs parts call) fs parts kept
   begins call none e = record {
     needs = λ setup store a stands runs.
         record { runs = runs; place = place_is a stands.attempt ∙ none; called = call_is a (Some call) stands.attempt e };
@@ -194,9 +190,6 @@ module _ (fs : List Function) (parts : Parts) (kept : AttemptState) where
     same = λ setup store a stands script. refl;
   }
 
-  abbrev pub script_move : Setup → Store → Attempt → Move
-  script_move setup store a = script_step setup fs a store (view parts.book a.engine) (next_sent parts.book a.engine) (attempt_ask fs a)
-
   module _ (good : Bool) (e : good ≡ false) (answers : Answers good) where
     none_there : (setup : Setup) (store : Store) (a : Attempt) → FlowStandsFor setup fs store a parts kept → HasScript a
         → answers_to a (attempt_ask fs a) (nth (step_tag a.path) a.place (view parts.book a.engine)) ≡ None
@@ -206,17 +199,17 @@ module _ (fs : List Function) (parts : Parts) (kept : AttemptState) where
     waiting_is a w stands is = sym (ap (λ (p : Progress). p.waiting) stands.progress) ∙ is
 
     by_waiting : (setup : Setup) (store : Store) (a : Attempt) (w : Bool) → FlowStandsFor setup fs store a parts kept → HasScript a → kept.progress.waiting ≡ w
-        → unless_waiting w a store (script_move setup store a) ≡ next_move fs parts setup store a
+        → unless_waiting w a store (script_move fs parts setup store a) ≡ next_move fs parts setup store a
     by_waiting setup store a w stands script is =
-        sym (ap (λ (found : Option (Live Body)). adopt_or a store (view parts.book a.engine) found (unless_waiting a.waiting a store (script_move setup store a))) (none_there setup store a stands script)
-        ∙ ap (λ (v : Bool). unless_waiting v a store (script_move setup store a)) (waiting_is a w stands.attempt is))
+        sym (ap (λ (found : Option (Live Body)). adopt_or a store (view parts.book a.engine) found (unless_waiting a.waiting a store (script_move fs parts setup store a))) (none_there setup store a stands script)
+        ∙ ap (λ (v : Bool). unless_waiting v a store (script_move fs parts setup store a)) (waiting_is a w stands.attempt is))
 
     pub waits_record : kept.progress.waiting ≡ true → MovesBy HasBegun (next_move fs parts) fs parts parts kept kept line.WaitsRecord
     waits_record is setup store a stands script =
         subst (λ (move : Move). IsMoved setup fs a.engine move parts parts kept line.WaitsRecord) (by_waiting setup store a true stands script is)
         (stays setup fs store a parts kept line.WaitsRecord stands)
 
-    pub scripts : kept.progress.waiting ≡ false → Leads HasBegun HasBegun (next_move fs parts) script_move fs parts kept
+    pub scripts : kept.progress.waiting ≡ false → Leads HasBegun HasBegun (next_move fs parts) (script_move fs parts) fs parts kept
     scripts is = record {
       needs = λ setup store a stands script. script;
       same = λ setup store a stands script. by_waiting setup store a false stands script is;

@@ -1,8 +1,8 @@
 use Rattle.std.proofs.Common.{◌∙◌, sym}
-use Rattle.boki_flow.specs.Arms.{HasBegun, FindsAnswer, next_move}
+use Rattle.boki_flow.specs.Arms.{HasBegun, FindsAnswer, next_move, script_move}
 use Rattle.boki_flow.proofs.Leading.{can_if, leads_moves, leads_cut}
 use Rattle.boki_flow.proofs.Standing.{has_engine, sound, room}
-use Rattle.boki_flow.proofs.StepCases.{adopts, waits_record, scripts, script_move}
+use Rattle.boki_flow.proofs.StepCases.{adopts, waits_record, scripts}
 use Rattle.boki_flow.proofs.cases.step_on.Goals as goal
 
 pub is_answered-requires-clause-engine : goal.is_answered-requires-clause-engine
@@ -46,12 +46,12 @@ pub returns-else-waiting-clause-ok : goal.returns-else-waiting-clause-ok
 returns-else-waiting-clause-ok c =
     let fs = c.args.program.now.functions in
     let old = c.args.parts.now in
-    leads_moves HasBegun HasBegun fs old c.step_script.new.parts (next_move fs old) (script_move fs old c.args.state.now) c.args.state.now c.step_script.new.state
+    leads_moves HasBegun HasBegun fs old c.step_script.new.parts (next_move fs old) (script_move fs old) c.args.state.now c.step_script.new.state
     (scripts fs old c.args.state.now c.is_answered.result c.if-is_answered.false c.is_answered.ensures c.if-waiting.false) c.step_script.result c.step_script.ensures.ok
 
 pub returns-else-waiting-clause-cut : goal.returns-else-waiting-clause-cut
 returns-else-waiting-clause-cut c =
     let fs = c.args.program.now.functions in
     let old = c.args.parts.now in
-    leads_cut HasBegun HasBegun fs old c.step_script.new.parts (next_move fs old) (script_move fs old c.args.state.now) c.args.state.now c.step_script.new.state
+    leads_cut HasBegun HasBegun fs old c.step_script.new.parts (next_move fs old) (script_move fs old) c.args.state.now c.step_script.new.state
     (scripts fs old c.args.state.now c.is_answered.result c.if-is_answered.false c.is_answered.ensures c.if-waiting.false) c.step_script.result c.step_script.ensures.cut

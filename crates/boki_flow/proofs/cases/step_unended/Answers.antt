@@ -1,8 +1,8 @@
 use Rattle.std.proofs.Common.{◌≡◌, sym, arith}
-use Rattle.boki_flow.specs.Arms.{Runs, HasBegun, IsCalled, unended_move, next_move}
+use Rattle.boki_flow.specs.Arms.{Runs, HasBegun, IsCalled, unended_move, next_move, init_move}
 use Rattle.boki_flow.proofs.Leading.{can_if, leads_moves, leads_cut}
 use Rattle.boki_flow.proofs.Standing.{has_engine, sound}
-use Rattle.boki_flow.proofs.StepCases.{cut_before, goes_on, waits_call, begins, init_move}
+use Rattle.boki_flow.proofs.StepCases.{cut_before, goes_on, waits_call, begins}
 use Rattle.boki_flow.proofs.cases.step_unended.Goals as goal
 
 pub step_on-requires : goal.step_on-requires
@@ -51,12 +51,12 @@ pub returns-clause-ok : goal.returns-clause-ok
 returns-clause-ok c =
     let fs = c.args.program.now.functions in
     let old = c.args.parts.now in
-    leads_moves Runs (λ setup store a. IsCalled old c.in-Some.call a) fs old c.step_init-line.new.parts (unended_move fs old) (init_move fs old c.args.state.now c.in-Some.call) c.args.state.now c.step_init-line.new.state
+    leads_moves Runs (λ setup store a. IsCalled old c.in-Some.call a) fs old c.step_init-line.new.parts (unended_move fs old) (init_move fs old c.in-Some.call) c.args.state.now c.step_init-line.new.state
     (begins fs old c.args.state.now c.in-Some.call (omega arith) c.in-Some.ensures) c.step_init-line.result c.step_init-line.ensures.ok
 
 pub returns-clause-cut : goal.returns-clause-cut
 returns-clause-cut c =
     let fs = c.args.program.now.functions in
     let old = c.args.parts.now in
-    leads_cut Runs (λ setup store a. IsCalled old c.in-Some.call a) fs old c.step_init-line.new.parts (unended_move fs old) (init_move fs old c.args.state.now c.in-Some.call) c.args.state.now c.step_init-line.new.state
+    leads_cut Runs (λ setup store a. IsCalled old c.in-Some.call a) fs old c.step_init-line.new.parts (unended_move fs old) (init_move fs old c.in-Some.call) c.args.state.now c.step_init-line.new.state
     (begins fs old c.args.state.now c.in-Some.call (omega arith) c.in-Some.ensures) c.step_init-line.result c.step_init-line.ensures.cut
