@@ -87,16 +87,21 @@ free_write setup a store at key v R late e = absurd (let no_way : false ≡ true
 free_write setup a store at key v T late e = absurd (let no_way : false ≡ true = e in cc)
 
 -- all but reads, writes and joins are sent
-sent_other : (setup : Setup) (fs : List Function) (a : Attempt) (store : Store) (seen : List (Live Body)) (at : Sent) (ask : Ask)
-    → ((key : List ℕ) → ask ≡ k.Op (o.Read key) → ⊥) → ((keys : List (List ℕ)) → ask ≡ k.Op (o.ReadGroup keys) → ⊥)
-    → ((key : List ℕ) (v : Value) → ask ≡ k.Op (o.Write key v) → ⊥) → ((ordinal : ℕ) → ask ≡ k.Op (o.Join ordinal) → ⊥)
+abbrev pub is_sent : Ask → Bool
+is_sent (k.Op (o.Read key)) = false
+is_sent (k.Op (o.ReadGroup keys)) = false
+is_sent (k.Op (o.Write key v)) = false
+is_sent (k.Op (o.Join ordinal)) = false
+is_sent _ = true
+
+sent_other : (setup : Setup) (fs : List Function) (a : Attempt) (store : Store) (seen : List (Live Body)) (at : Sent) (ask : Ask) → is_sent ask ≡ true
     → asked_move fs a store at None ask ≡ script_step setup fs a store seen at (Some ask)
-sent_other setup fs a store seen at (k.Done outcome) read group write join = refl
-sent_other setup fs a store seen at (k.Op (o.Read key)) read group write join = absurd (read key refl)
-sent_other setup fs a store seen at (k.Op (o.ReadGroup keys)) read group write join = absurd (group keys refl)
-sent_other setup fs a store seen at (k.Op (o.Write key v)) read group write join = absurd (write key v refl)
-sent_other setup fs a store seen at (k.Op (o.Join ordinal)) read group write join = absurd (join ordinal refl)
-sent_other setup fs a store seen at (k.Op _) read group write join = refl
+sent_other setup fs a store seen at (k.Done outcome) e = refl
+sent_other setup fs a store seen at (k.Op (o.Read key)) e = absurd (let no_way : false ≡ true = e in cc)
+sent_other setup fs a store seen at (k.Op (o.ReadGroup keys)) e = absurd (let no_way : false ≡ true = e in cc)
+sent_other setup fs a store seen at (k.Op (o.Write key v)) e = absurd (let no_way : false ≡ true = e in cc)
+sent_other setup fs a store seen at (k.Op (o.Join ordinal)) e = absurd (let no_way : false ≡ true = e in cc)
+sent_other setup fs a store seen at (k.Op _) e = refl
 
 -- what either of two is, where the second was asked after the first
 pub by_first : (first second either : Bool) → first ≡ true → either ≡ first → (first || second) ≡ either
@@ -140,14 +145,12 @@ module _ (fs : List Function) (parts : Parts) (kept : AttemptState) where
           ∙ sym (ap (script_step setup fs a store (view parts.book a.engine) (next_sent parts.book a.engine)) (by_ask setup store a stands script));
     }
 
-    pub sends_other : ((key : List ℕ) → ask ≡ k.Op (o.Read key) → ⊥) → ((keys : List (List ℕ)) → ask ≡ k.Op (o.ReadGroup keys) → ⊥)
-        → ((key : List ℕ) (v : Value) → ask ≡ k.Op (o.Write key v) → ⊥) → ((ordinal : ℕ) → ask ≡ k.Op (o.Join ordinal) → ⊥)
-        → Leads HasBegun HasBegun (script_move fs parts) (send_move fs parts false kept.frame) fs parts kept
-    sends_other read group write join = record {
+    pub sends_other : is_sent ask ≡ true → Leads HasBegun HasBegun (script_move fs parts) (send_move fs parts false kept.frame) fs parts kept
+    sends_other sent = record {
       needs = λ setup store a stands script. script;
       same = λ setup store a stands script.
           ap (λ (q : Ask). asked_move fs a store (next_sent parts.book a.engine) None q) (ap asked_in frame ∙ is)
-          ∙ sent_other setup fs a store (view parts.book a.engine) (next_sent parts.book a.engine) ask read group write join
+          ∙ sent_other setup fs a store (view parts.book a.engine) (next_sent parts.book a.engine) ask sent
           ∙ sym (ap (script_step setup fs a store (view parts.book a.engine) (next_sent parts.book a.engine)) (by_ask setup store a stands script));
     }
 
