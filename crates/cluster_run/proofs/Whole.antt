@@ -144,14 +144,6 @@ module _ (old new : ClusterState) (same : new.attempts ≡ old.attempts) (n : �
 
 -- The report.
 
-few : (fs : List Function) → AreFunctions fs → length fs < 2 ^ 32
-few fs ok =
-    let most : length fs ≤ 256 = leb-true (length fs) 256 (and_parts _ _ (and_parts _ _ ok).0).0 in
-    omega (arith, most)
-
-pub few_functions : (plan : Plan) (c : ClusterState) → IsOfPlan plan c → c.marked ≡ false → length plan.program.functions < 2 ^ 32
-few_functions plan c of unmarked = few plan.program.functions (of unmarked).stands.are.kept.program
-
 module _ (setup : Setup) (fs : List Function) (m : Machine) (c : ClusterState) (one : StandsForOne setup fs m c) where
   pub log_is : length (ordered c.parts.book) ≡ length (log m)
   log_is = sym (log_length m c.parts.book one.stands.are.book)
