@@ -1,6 +1,8 @@
 -- The attempts of an engine are killed one by one.
-use Rattle.std.proofs.Common.{◌≡◌, ◌∙◌, ℕ, zero, suc, ◌&&◌, Bool, true, false, cond, eqb, List, [], ◌∷◌, length, map, Option, Some, None, refl, sym, ap, subst}
+use Rattle.std.proofs.Common.{◌≡◌, ◌∙◌, ℕ, zero, suc, ◌&&◌, Bool, true, false, cond, eqb, List, [], ◌∷◌, ◌++◌, length, map, reverse, Option, Some, None, refl, sym, ap, subst}
 use Rattle.std.specs.Prelude.{slice_get}
+use Rattle.std.specs.List.{filter}
+use Rattle.log_folds.proofs.Maps.{map-reversed}
 use Rattle.boki_types.specs.declared.program.Function.{Function}
 use Rattle.boki_machine.specs.Attempt.{Attempt}
 use Rattle.boki_machine.specs.Step.{is_running, after_kill}
@@ -10,7 +12,8 @@ use Rattle.attempt_state.specs.declared.state.AttemptState.{AttemptState}
 use Rattle.attempt_state.specs.Attempts.{AttemptStandsFor}
 use Rattle.indexmap.specs.IndexMap.{set_value_at}
 use Rattle.cluster_run.specs.Clusters.{AttemptsStandFor}
-use Rattle.cluster_run.specs.Killed.{kept_runs_on, kill_one}
+use Rattle.cluster_run.specs.Killed.{kept_runs_on, running_count, kill_one}
+use Rattle.cluster_run.proofs.Numbered.{reverse-cons}
 
 -- the first so many were looked at
 abbrev pub kill_first : ℕ → ℕ → List NumberedAttempt → List NumberedAttempt
@@ -31,6 +34,44 @@ each_killed engine (x ∷ xs) = ap (λ (l : List NumberedAttempt). kill_if_on en
 number_kept : (x : NumberedAttempt) (t : Bool) → (cond t (record x { attempt = after_kill x.attempt }) x).number ≡ x.number
 number_kept x true = refl
 number_kept x false = refl
+
+-- How many run on an engine.
+
+-- one more where that one does
+abbrev pub count_if : Bool → ℕ → ℕ
+count_if t n = cond t (suc n) n
+
+abbrev pub running_attempts : ℕ → List NumberedAttempt → ℕ
+running_attempts engine xs = length (filter (λ x. runs_on engine x.attempt) xs)
+
+counted : {X : Type 0} (x : X) (xs : List X) (t : Bool) → length (cond t (x ∷ xs) xs) ≡ count_if t (length xs)
+counted x xs true = refl
+counted x xs false = refl
+
+pub one_counted : (engine : ℕ) (e : ℕ × AttemptState) (es : List (ℕ × AttemptState)) → running_count engine (e ∷ es) ≡ count_if (kept_runs_on engine e.1) (running_count engine es)
+one_counted engine e es = counted e (filter (λ e. kept_runs_on engine e.1) es) (kept_runs_on engine e.1)
+
+one_running : (engine : ℕ) (x : NumberedAttempt) (xs : List NumberedAttempt) → running_attempts engine (x ∷ xs) ≡ count_if (runs_on engine x.attempt) (running_attempts engine xs)
+one_running engine x xs = counted x (filter (λ x. runs_on engine x.attempt) xs) (runs_on engine x.attempt)
+
+last_running : (engine : ℕ) (xs : List NumberedAttempt) (x : NumberedAttempt) → running_attempts engine (xs ++ x ∷ []) ≡ count_if (runs_on engine x.attempt) (running_attempts engine xs)
+last_running engine [] x = one_running engine x []
+last_running engine (y ∷ ys) x =
+    one_running engine y (ys ++ x ∷ []) ∙ ap (count_if (runs_on engine y.attempt)) (last_running engine ys x)
+    ∙ swap (runs_on engine y.attempt) (runs_on engine x.attempt)
+    ∙ ap (count_if (runs_on engine x.attempt)) (sym (one_running engine y ys))
+  where
+    swap : (t u : Bool) → count_if t (count_if u (running_attempts engine ys)) ≡ count_if u (count_if t (running_attempts engine ys))
+    swap true true = refl
+    swap true false = refl
+    swap false true = refl
+    swap false false = refl
+
+pub running_reversed : (engine : ℕ) (xs : List NumberedAttempt) → running_attempts engine (reverse xs) ≡ running_attempts engine xs
+running_reversed engine [] = refl
+running_reversed engine (x ∷ xs) =
+    ap (running_attempts engine) (reverse-cons x xs) ∙ last_running engine (reverse xs) x
+    ∙ ap (count_if (runs_on engine x.attempt)) (running_reversed engine xs) ∙ sym (one_running engine x xs)
 
 module _ (fs : List Function) where
   pub same_length : (xs : List NumberedAttempt) (es : List (ℕ × AttemptState)) → AttemptsStandFor fs xs es → length xs ≡ length es
@@ -67,3 +108,19 @@ module _ (fs : List Function) where
     none_at_index index (x ∷ xs) [] all there = absurd all
     none_at_index zero (x ∷ xs) (e ∷ es) all there = cc
     none_at_index (suc index) (x ∷ xs) (e ∷ es) all there = (all.0, all.1, none_at_index index xs es all.2 there)
+
+    -- as many run as are kept as running
+    pub counts_alike : (xs : List NumberedAttempt) (es : List (ℕ × AttemptState)) → AttemptsStandFor fs xs es → running_count engine es ≡ running_attempts engine xs
+    counts_alike [] [] all = refl
+    counts_alike [] (e ∷ es) all = absurd all
+    counts_alike (x ∷ xs) [] all = absurd all
+    counts_alike (x ∷ xs) (e ∷ es) all =
+        one_counted engine e es ∙ ap (count_if (kept_runs_on engine e.1)) (counts_alike xs es all.2)
+        ∙ ap (λ (t : Bool). count_if t (running_attempts engine xs)) (runs_alike x.attempt e.1 all.1)
+        ∙ sym (one_running engine x xs)
+
+    pub counts_reversed : (xs : List NumberedAttempt) (es : List (ℕ × AttemptState)) → AttemptsStandFor fs (reverse xs) es → running_count engine es ≡ running_attempts engine xs
+    counts_reversed xs es all = counts_alike (reverse xs) es all ∙ running_reversed engine xs
+
+    pub killed_reversed : (xs : List NumberedAttempt) (es : List (ℕ × AttemptState)) → AttemptsStandFor fs (kill_on engine (reverse xs)) es → AttemptsStandFor fs (reverse (kill_on engine xs)) es
+    killed_reversed xs es all = subst (λ (l : List NumberedAttempt). AttemptsStandFor fs l es) (map-reversed (kill_if_on engine) xs) all

@@ -10,6 +10,7 @@ use Rattle.boki_machine.specs.Attempt.{Attempt}
 use Rattle.boki_machine.specs.Machine.{NumberedAttempt, attempt_at, set_attempt}
 use Rattle.attempt_state.specs.declared.state.AttemptState.{AttemptState}
 use Rattle.attempt_state.specs.Attempts.{AttemptStandsFor}
+use Rattle.indexmap.specs.IndexMap.{insert_entry}
 use Rattle.cluster_run.specs.Clusters.{AttemptsStandFor}
 
 pub reverse-cons : {X : Type 0} (x : X) (xs : List X) → reverse (x ∷ xs) ≡ reverse xs ++ x ∷ []
@@ -95,6 +96,16 @@ set_reversed n a (x ∷ xs) apart = ap (set_attempt n a) (reverse-cons x xs) ∙
         ∙ sym (reverse-cons x (set_attempt n a xs))
 
 -- What is kept.
+
+-- a number that isn't there goes last
+pub inserted_last : (n : ℕ) (s : AttemptState) (es : List (ℕ × AttemptState)) → lookup (eqb n) es ≡ None → insert_entry eqb es n s ≡ es ++ (n, s) ∷ []
+inserted_last n s [] none = refl
+inserted_last n s (e ∷ es) none = at (inserted_last n s es) (eqb n e.0) none
+  where
+    at : (lookup (eqb n) es ≡ None → insert_entry eqb es n s ≡ es ++ (n, s) ∷ []) → (t : Bool) → cond t (Some e.1) (lookup (eqb n) es) ≡ None
+        → cond t ((e.0, s) ∷ es) (e ∷ insert_entry eqb es n s) ≡ e ∷ (es ++ (n, s) ∷ [])
+    at ih true none = cc
+    at ih false none = ap (λ (l : List (ℕ × AttemptState)). e ∷ l) (ih none)
 
 module _ (fs : List Function) where
   -- a number is there where it is kept
