@@ -65,36 +65,6 @@ module _ (fs : List Function) (m : Machine) (es : List (ℕ × AttemptState)) (s
       let same : does (attempt_at n m.attempts) ≡ event_result m line.Ignored = ap does e ∙ is in
       (sym (ap (λ (r : EventResult). r.line) same), subst (λ (r : EventResult). AttemptsStandFor fs (reverse r.machine.attempts) es) (sym same) stand)
 
-  -- A new attempt.
-  module _ (setup : Setup) (path : List ℕ) (engine : ℕ) where
-    pub start_ignored : true ≡ is_some (lookup (eqb n) es) → IsDoneToAttempts setup fs (event.Start n path engine) m es line.Ignored
-    start_ignored e = at (lookup (eqb n) es) refl e
-      where
-        at : (p : Option AttemptState) → p ≡ lookup (eqb n) es → true ≡ is_some p → IsDoneToAttempts setup fs (event.Start n path engine) m es line.Ignored
-        at None q e = cc
-        at (Some v) q e =
-            let one = one_there v q in
-            let done = ignored (start_attempt m n path engine) (Some one.0) one.1 refl in
-            record { line_is = done.0; stand = done.1 }
-
-    pub started : (s : AttemptState) (new : List (ℕ × AttemptState)) → false ≡ is_some (lookup (eqb n) es)
-        → AttemptStandsFor fs (new_attempt path engine) s → new ≡ insert_entry eqb es n s → IsDoneToAttempts setup fs (event.Start n path engine) m new line.Started
-    started s new e is after = at (lookup (eqb n) es) refl e
-      where
-        at : (p : Option AttemptState) → p ≡ lookup (eqb n) es → false ≡ is_some p → IsDoneToAttempts setup fs (event.Start n path engine) m new line.Started
-        at (Some v) q e = cc
-        at None q e =
-            let none = none_there q in
-            let x : NumberedAttempt = record { number = n; attempt = new_attempt path engine } in
-            record {
-              line_is = sym (ap (λ (o : Option Attempt). (start_attempt m n path engine o).line) none);
-              stand =
-                  subst (λ (o : Option Attempt). AttemptsStandFor fs (reverse (start_attempt m n path engine o).machine.attempts) new) (sym none)
-                  (subst (λ (xs : List NumberedAttempt). AttemptsStandFor fs xs new) (sym (reverse-cons x m.attempts))
-                  (subst (AttemptsStandFor fs (reverse m.attempts ++ x ∷ [])) (sym (after ∙ inserted_last n s es (sym q)))
-                  (more_alike fs (reverse m.attempts) es x s stand is)));
-            }
-
   pub kill_ignored : (setup : Setup) (new : List (ℕ × AttemptState)) → None ≡ lookup (eqb n) es → new ≡ es → IsDoneToAttempts setup fs (event.Kill n) m new line.Ignored
   kill_ignored setup new e same =
       let done = ignored (kill_attempt m n) None (none_there e) refl in

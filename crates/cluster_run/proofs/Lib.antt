@@ -1,5 +1,6 @@
 pub mod Numbered
 pub mod Reached
+pub mod Starting
 pub mod Killing
 pub mod AttemptEvents
 pub mod Applied

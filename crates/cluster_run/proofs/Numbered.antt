@@ -39,6 +39,16 @@ or_none : (o : Option Attempt) → option_or o None ≡ o
 or_none None = refl
 or_none (Some a) = refl
 
+-- one that isn't there isn't in the reversed list
+pub none_reversed : (n : ℕ) (xs : List NumberedAttempt) → attempt_at n xs ≡ None → attempt_at n (reverse xs) ≡ None
+none_reversed n [] none = refl
+none_reversed n (x ∷ xs) none = ap (attempt_at n) (reverse-cons x xs) ∙ at_end n (reverse xs) x ∙ at (none_reversed n xs) (eqb n x.number) none
+  where
+    at : (attempt_at n xs ≡ None → attempt_at n (reverse xs) ≡ None) → (t : Bool) → cond t (Some x.attempt) (attempt_at n xs) ≡ None
+        → option_or (attempt_at n (reverse xs)) (cond t (Some x.attempt) None) ≡ None
+    at ih true e = cc
+    at ih false e = or_none (attempt_at n (reverse xs)) ∙ ih e
+
 pub at_reversed : (n : ℕ) (xs : List NumberedAttempt) → AreApart xs → attempt_at n (reverse xs) ≡ attempt_at n xs
 at_reversed n [] apart = refl
 at_reversed n (x ∷ xs) apart =
