@@ -1,7 +1,5 @@
 -- What the events of attempts do to what is kept.
 use Rattle.std.proofs.Common.{◌≡◌, ◌∙◌, ℕ, Bool, true, false, cond, eqb, List, ◌∷◌, ◌++◌, [], length, reverse, Option, Some, None, refl, sym, ap, subst}
-use Rattle.std.specs.Prelude.{IsTrue}
-use Rattle.std.specs.Option.{is_some}
 use Rattle.std.specs.List.{IsDistinct}
 use Rattle.std.specs.Map.{lookup, keys_of, set_value}
 use Rattle.std.proofs.lemmas.List.{reverse-reverse}
@@ -10,17 +8,16 @@ use Rattle.boki_types.specs.declared.line.Line.{Line}
 use Rattle.boki_types.specs.declared.line.Line.TheVariants as line
 use Rattle.boki_types.specs.declared.plan.Setup.{Setup}
 use Rattle.boki_types.specs.declared.program.Function.{Function}
-use Rattle.boki_machine.specs.Attempt.{Attempt, new_attempt}
+use Rattle.boki_machine.specs.Attempt.{Attempt}
 use Rattle.boki_machine.specs.Step.{is_running, after_kill, can_lose, after_lose}
-use Rattle.boki_machine.specs.Machine.{Machine, NumberedAttempt, EventResult, event_result, attempt_at, set_attempt, start_attempt, kill_attempt, lose_record}
+use Rattle.boki_machine.specs.Machine.{Machine, NumberedAttempt, EventResult, event_result, attempt_at, set_attempt, kill_attempt, lose_record}
 use Rattle.attempt_state.specs.Progresses.{awaits_record}
 use Rattle.attempt_state.specs.declared.progress.Progress.{Progress}
 use Rattle.attempt_state.specs.declared.state.AttemptState.{AttemptState}
 use Rattle.attempt_state.specs.Attempts.{AttemptStandsFor}
 use Rattle.cluster_run.specs.Clusters.{AttemptsStandFor}
 use Rattle.cluster_run.specs.Attempts.{IsDoneToAttempts}
-use Rattle.indexmap.specs.IndexMap.{insert_entry}
-use Rattle.cluster_run.proofs.Numbered.{reverse-cons, are_apart, at_reversed, set_reversed, found_alike, FoundAlike, set_alike, more_alike, inserted_last}
+use Rattle.cluster_run.proofs.Numbered.{are_apart, at_reversed, set_reversed, found_alike, FoundAlike, set_alike}
 
 module _ (fs : List Function) (m : Machine) (es : List (ℕ × AttemptState)) (stand : AttemptsStandFor fs (reverse m.attempts) es)
     (distinct : IsDistinct eqb (keys_of es)) (n : ℕ) where

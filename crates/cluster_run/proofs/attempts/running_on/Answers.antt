@@ -1,5 +1,4 @@
-use Rattle.std.proofs.Common.{◌≡◌, ◌∙◌, ◌+◌, ℕ, suc, Bool, List, sym, ap, arith}
-use Rattle.attempt_state.specs.declared.state.AttemptState.{AttemptState}
+use Rattle.std.proofs.Common.{◌≡◌, ◌∙◌, Bool, sym, ap, arith}
 use Rattle.cluster_run.specs.Killed.{running_count}
 use Rattle.cluster_run.proofs.Killing.{count_if, one_counted}
 use Rattle.cluster_run.proofs.attempts.running_on.Goals as goal
