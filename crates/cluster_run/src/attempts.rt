@@ -21,6 +21,8 @@ pub(crate) fn start(
     ensures done { IfOk result (DoesToAttempts (event.Start number path engine) attempts.old.entries attempts.new.entries) }
     ensures err { OnErr result (attempts.new.entries ≡ attempts.old.entries) }
 {
+    // No two keys are equal.
+    let _index = attempts.get_index_of(&number);
     if attempts.contains_key(&number) {
         return Ok(Line::Ignored);
     }

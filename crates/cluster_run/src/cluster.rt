@@ -71,7 +71,13 @@ impl Cluster {
         }
         self.marked = true;
         let line = apply(
-            self.alloc, rt, &plan.program, &mut self.parts, &mut self.attempts, event, gate,
+            self.alloc,
+            rt,
+            &plan.program,
+            &mut self.parts,
+            &mut self.attempts,
+            event,
+            gate,
         )?;
         self.marked = false;
         Ok(line)
