@@ -8,10 +8,9 @@ use crate::attempts::{kill_attempt, lose_record, miss_attempt, restart, start, s
 use boki_flow::{Attempt, Parts};
 use boki_types::{Event, Line, Program};
 use book_api::Gate;
-use cluster_events::{
-    append, aux, catch, cond, copy, cut, end_switch, next, prev, set_aux, settled, submit, sweep,
-    switch, sync, tail, trim, trim_tag,
-};
+use cluster_events::{append, cond, end_switch, submit, switch, trim, trim_tag};
+use cluster_events::{aux, next, prev, set_aux, settled, tail};
+use cluster_events::{catch, copy, cut, sweep, sync};
 use indexmap::IndexMap;
 use lb_base::Memory;
 use std::alloc::Global;
@@ -79,7 +78,12 @@ fn order<R: Threads + Sync, G: Gate + Sync>(
 }
 
 /// An event that sends a record of no attempt.
-fn send(alloc: Global, program: &Program, parts: &mut Parts, event: &Event) -> Result<Line, Memory>
+fn send(
+    alloc: Global,
+    program: &Program,
+    parts: &mut Parts,
+    event: &Event,
+) -> Result<Line, Memory>
     requires group { IsTrue (is_sending event.now) }
     requires can { CanDo program.now.functions event.now parts.old }
     ensures { IfOk result (DoesEvent program.now.functions event.now parts.old parts.new) }

@@ -71,13 +71,7 @@ impl Cluster {
         }
         self.marked = true;
         let line = apply(
-            self.alloc,
-            rt,
-            &plan.program,
-            &mut self.parts,
-            &mut self.attempts,
-            event,
-            gate,
+            self.alloc, rt, &plan.program, &mut self.parts, &mut self.attempts, event, gate,
         )?;
         self.marked = false;
         Ok(line)
