@@ -38,20 +38,20 @@ returns-then-is_answered-clause-cut c =
     leads_cut HasBegun (FindsAnswer fs old) fs old c.adopt.new.parts (next_move fs old) (next_move fs old) c.args.state.now c.adopt.new.state
     (adopts fs old c.args.state.now c.is_answered.result c.if-is_answered.true c.is_answered.ensures) c.adopt.result c.adopt.ensures.cut
 
-pub returns-then-waiting-clause-ok : goal.returns-then-waiting-clause-ok
-returns-then-waiting-clause-ok c =
-    waits_record c.args.program.now.functions c.args.parts.now c.args.state.now c.is_answered.result c.if-is_answered.false c.is_answered.ensures c.if-waiting.true
+pub returns-then-state-clause-ok : goal.returns-then-state-clause-ok
+returns-then-state-clause-ok c =
+    waits_record c.args.program.now.functions c.args.parts.now c.args.state.now c.is_answered.result c.if-is_answered.false c.is_answered.ensures c.if-state.true
 
-pub returns-else-waiting-clause-ok : goal.returns-else-waiting-clause-ok
-returns-else-waiting-clause-ok c =
+pub returns-else-state-clause-ok : goal.returns-else-state-clause-ok
+returns-else-state-clause-ok c =
     let fs = c.args.program.now.functions in
     let old = c.args.parts.now in
     leads_moves HasBegun HasBegun fs old c.step_script.new.parts (next_move fs old) (script_move fs old) c.args.state.now c.step_script.new.state
-    (scripts fs old c.args.state.now c.is_answered.result c.if-is_answered.false c.is_answered.ensures c.if-waiting.false) c.step_script.result c.step_script.ensures.ok
+    (scripts fs old c.args.state.now c.is_answered.result c.if-is_answered.false c.is_answered.ensures c.if-state.false) c.step_script.result c.step_script.ensures.ok
 
-pub returns-else-waiting-clause-cut : goal.returns-else-waiting-clause-cut
-returns-else-waiting-clause-cut c =
+pub returns-else-state-clause-cut : goal.returns-else-state-clause-cut
+returns-else-state-clause-cut c =
     let fs = c.args.program.now.functions in
     let old = c.args.parts.now in
     leads_cut HasBegun HasBegun fs old c.step_script.new.parts (next_move fs old) (script_move fs old) c.args.state.now c.step_script.new.state
-    (scripts fs old c.args.state.now c.is_answered.result c.if-is_answered.false c.is_answered.ensures c.if-waiting.false) c.step_script.result c.step_script.ensures.cut
+    (scripts fs old c.args.state.now c.is_answered.result c.if-is_answered.false c.is_answered.ensures c.if-state.false) c.step_script.result c.step_script.ensures.cut
