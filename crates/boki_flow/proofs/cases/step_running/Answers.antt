@@ -9,10 +9,6 @@ pub last_finish-requires : goal.last_finish-requires
 last_finish-requires c =
     has_engine c.requires.setup c.args.program.now.functions c.requires.store c.requires.attempt c.args.parts.now c.args.state.now c.requires.stands
 
-pub returns-in_err-last_finish-clause-cut : goal.returns-in_err-last_finish-clause-cut
-returns-in_err-last_finish-clause-cut c =
-    cut_before Runs (running_move c.args.program.now.functions c.args.parts.now) c.args.program.now.functions c.args.parts.now c.args.state.now
-
 pub returns-in-Some-clause-ok : goal.returns-in-Some-clause-ok
 returns-in-Some-clause-ok c =
     overs c.args.program.now.functions c.args.parts.now c.args.state.now c.in-Some.outcome c.end.new.self (sym c.in-Some.is ∙ c.in_ok-outcome.ensures) c.end.ensures

@@ -1,8 +1,8 @@
-use Rattle.std.proofs.Common.{◌≡◌, sym, arith}
-use Rattle.boki_flow.specs.Arms.{Runs, HasBegun, IsCalled, unended_move, next_move, init_move}
+use Rattle.std.proofs.Common.{◌≡◌, ◌∙◌, sym, arith}
+use Rattle.boki_flow.specs.Arms.{Runs, HasBegun, IsCalledBy, unended_move, next_move, init_move}
 use Rattle.boki_flow.proofs.Leading.{can_if, leads_moves, leads_cut}
 use Rattle.boki_flow.proofs.Standing.{has_engine, sound}
-use Rattle.boki_flow.proofs.StepCases.{cut_before, goes_on, waits_call, begins}
+use Rattle.boki_flow.proofs.StepCases.{goes_on, begins}
 use Rattle.boki_flow.proofs.cases.step_unended.Goals as goal
 
 pub step_on-requires : goal.step_on-requires
@@ -33,30 +33,20 @@ pub resolve-requires-clause-sound : goal.resolve-requires-clause-sound
 resolve-requires-clause-sound c =
     sound c.requires.setup c.args.program.now.functions c.requires.store c.requires.attempt c.args.parts.now c.args.state.now c.requires.stands
 
-pub returns-in_err-resolve-clause-cut : goal.returns-in_err-resolve-clause-cut
-returns-in_err-resolve-clause-cut c =
-    cut_before Runs (unended_move c.args.program.now.functions c.args.parts.now) c.args.program.now.functions c.args.parts.now c.args.state.now
-
-pub returns-in-None-clause-ok : goal.returns-in-None-clause-ok
-returns-in-None-clause-ok c = waits_call c.args.program.now.functions c.args.parts.now c.args.state.now c.in-None.ensures
-
-pub step_init-requires : goal.step_init-requires
-step_init-requires c =
-    let fs = c.args.program.now.functions in
-    let old = c.args.parts.now in
-    can_if Runs (λ setup store a. IsCalled old c.in-Some.call a) fs old c.args.state.now
-    (begins fs old c.args.state.now c.in-Some.call (omega arith) c.in-Some.ensures).needs c.requires
-
 pub returns-clause-ok : goal.returns-clause-ok
 returns-clause-ok c =
     let fs = c.args.program.now.functions in
     let old = c.args.parts.now in
-    leads_moves Runs (λ setup store a. IsCalled old c.in-Some.call a) fs old c.step_init-line.new.parts (unended_move fs old) (init_move fs old c.in-Some.call) c.args.state.now c.step_init-line.new.state
-    (begins fs old c.args.state.now c.in-Some.call (omega arith) c.in-Some.ensures) c.step_init-line.result c.step_init-line.ensures.ok
+    let kept = c.args.state.now in
+    let first : kept.progress.place ≡ 0 = (let not = c.if-at-gt0.false in omega arith) in
+    leads_moves Runs (IsCalledBy old c.in-Some.call) fs old c.step_init-line.new.parts (unended_move fs old) (init_move fs old c.in-Some.call) kept c.step_init-line.new.state
+    (begins fs old kept c.in-Some.call first (sym c.in-Some.is ∙ c.in_ok-call.ensures)) c.step_init-line.result c.step_init-line.ensures.ok
 
 pub returns-clause-cut : goal.returns-clause-cut
 returns-clause-cut c =
     let fs = c.args.program.now.functions in
     let old = c.args.parts.now in
-    leads_cut Runs (λ setup store a. IsCalled old c.in-Some.call a) fs old c.step_init-line.new.parts (unended_move fs old) (init_move fs old c.in-Some.call) c.args.state.now c.step_init-line.new.state
-    (begins fs old c.args.state.now c.in-Some.call (omega arith) c.in-Some.ensures) c.step_init-line.result c.step_init-line.ensures.cut
+    let kept = c.args.state.now in
+    let first : kept.progress.place ≡ 0 = (let not = c.if-at-gt0.false in omega arith) in
+    leads_cut Runs (IsCalledBy old c.in-Some.call) fs old c.step_init-line.new.parts (unended_move fs old) (init_move fs old c.in-Some.call) kept c.step_init-line.new.state
+    (begins fs old kept c.in-Some.call first (sym c.in-Some.is ∙ c.in_ok-call.ensures)) c.step_init-line.result c.step_init-line.ensures.cut
