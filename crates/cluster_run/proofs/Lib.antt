@@ -4,3 +4,4 @@ pub mod Killing
 pub mod AttemptEvents
 pub mod Applied
 pub mod Whole
+pub mod Stepped
