@@ -5,11 +5,11 @@ ghost use Rattle.boki_types.specs.declared.operation.Ask.TheVariants as k;
 ghost use Rattle.boki_types.specs.declared.operation.Op.TheVariants as o;
 ghost use Rattle.boki_flow.specs.Arms.{CanFlowIf, MovesBy, CutShortBy, HasBegun, ScriptAsks, here_in, script_move, read_move, read_group_move, write_move, logged_move, join_move, send_move};
 
-use flow_parts::Parts;
 use attempt_log::send_asked;
-use attempt_store::{free_read, free_read_group, free_write, store_value};
 use attempt_state::{AttemptState, child, copy_names, is_inline};
+use attempt_store::{free_read, free_read_group, free_write, store_value};
 use boki_types::{Ask, Op, Program, StepLine};
+use flow_parts::Parts;
 use lb_base::{List, Memory, Value, Words};
 use std::alloc::Global;
 use step_log::last_finish;
@@ -61,11 +61,14 @@ fn read_next(
     state: &mut AttemptState,
     key: Words,
 ) -> Result<StepLine, Memory>
-    requires { CanFlowIf (ScriptAsks program.now.functions (k.Op (o.Read key))) program.now.functions parts.old state.old }
-    ensures ok { IfOk result (MovesBy (ScriptAsks program.now.functions (k.Op (o.Read key))) (read_move parts.old key)
+    requires { CanFlowIf (ScriptAsks program.now.functions (k.Op (o.Read key)))
+        program.now.functions parts.old state.old }
+    ensures ok { IfOk result (MovesBy (ScriptAsks program.now.functions (k.Op (o.Read key)))
+        (read_move parts.old key)
         program.now.functions parts.old parts.new state.old state.new) }
     ensures err { OnErr result (state.new ≡ state.old) }
-    ensures cut { OnErr result (CutShortBy (ScriptAsks program.now.functions (k.Op (o.Read key))) (read_move parts.old key)
+    ensures cut { OnErr result (CutShortBy (ScriptAsks program.now.functions (k.Op (o.Read key)))
+        (read_move parts.old key)
         program.now.functions parts.old parts.new state.old) }
 {
     if state.progress.reads_freely() {
@@ -84,11 +87,14 @@ fn read_group_next(
     state: &mut AttemptState,
     keys: List<Words>,
 ) -> Result<StepLine, Memory>
-    requires { CanFlowIf (ScriptAsks program.now.functions (k.Op (o.ReadGroup keys))) program.now.functions parts.old state.old }
-    ensures ok { IfOk result (MovesBy (ScriptAsks program.now.functions (k.Op (o.ReadGroup keys))) (read_group_move parts.old keys)
+    requires { CanFlowIf (ScriptAsks program.now.functions (k.Op (o.ReadGroup keys)))
+        program.now.functions parts.old state.old }
+    ensures ok { IfOk result (MovesBy (ScriptAsks program.now.functions (k.Op (o.ReadGroup keys)))
+        (read_group_move parts.old keys)
         program.now.functions parts.old parts.new state.old state.new) }
     ensures err { OnErr result (state.new ≡ state.old) }
-    ensures cut { OnErr result (CutShortBy (ScriptAsks program.now.functions (k.Op (o.ReadGroup keys))) (read_group_move parts.old keys)
+    ensures cut { OnErr result (CutShortBy (ScriptAsks program.now.functions (k.Op (o.ReadGroup keys)))
+        (read_group_move parts.old keys)
         program.now.functions parts.old parts.new state.old) }
 {
     if state.progress.reads_freely() {
@@ -108,11 +114,14 @@ fn write_next(
     key: Words,
     value: Value,
 ) -> Result<StepLine, Memory>
-    requires { CanFlowIf (ScriptAsks program.now.functions (k.Op (o.Write key value))) program.now.functions parts.old state.old }
-    ensures ok { IfOk result (MovesBy (ScriptAsks program.now.functions (k.Op (o.Write key value))) (write_move parts.old key value)
+    requires { CanFlowIf (ScriptAsks program.now.functions (k.Op (o.Write key value)))
+        program.now.functions parts.old state.old }
+    ensures ok { IfOk result (MovesBy (ScriptAsks program.now.functions (k.Op (o.Write key value)))
+        (write_move parts.old key value)
         program.now.functions parts.old parts.new state.old state.new) }
     ensures err { OnErr result (state.new ≡ state.old) }
-    ensures cut { OnErr result (CutShortBy (ScriptAsks program.now.functions (k.Op (o.Write key value))) (write_move parts.old key value)
+    ensures cut { OnErr result (CutShortBy (ScriptAsks program.now.functions (k.Op (o.Write key value)))
+        (write_move parts.old key value)
         program.now.functions parts.old parts.new state.old) }
 {
     if state.progress.writes_freely() {
@@ -122,7 +131,8 @@ fn write_next(
     }
 }
 
-/// A logged write: its value is stored under the write's name before it is sent, unless its record holds the value.
+/// A logged write: its value is stored under the write's name before it is sent, unless its record
+/// holds the value.
 fn log_write(
     alloc: Global,
     program: &Program,
@@ -131,11 +141,14 @@ fn log_write(
     key: Words,
     value: Value,
 ) -> Result<StepLine, Memory>
-    requires { CanFlowIf (ScriptAsks program.now.functions (k.Op (o.Write key value))) program.now.functions parts.old state.old }
-    ensures ok { IfOk result (MovesBy (ScriptAsks program.now.functions (k.Op (o.Write key value))) (logged_move parts.old key value)
+    requires { CanFlowIf (ScriptAsks program.now.functions (k.Op (o.Write key value)))
+        program.now.functions parts.old state.old }
+    ensures ok { IfOk result (MovesBy (ScriptAsks program.now.functions (k.Op (o.Write key value)))
+        (logged_move parts.old key value)
         program.now.functions parts.old parts.new state.old state.new) }
     ensures err { OnErr result (state.new ≡ state.old) }
-    ensures cut { OnErr result (CutShortBy (ScriptAsks program.now.functions (k.Op (o.Write key value))) (logged_move parts.old key value)
+    ensures cut { OnErr result (CutShortBy (ScriptAsks program.now.functions (k.Op (o.Write key value)))
+        (logged_move parts.old key value)
         program.now.functions parts.old parts.new state.old) }
 {
     let inline = is_inline(parts.newer, state.progress.engine, &value);
@@ -156,11 +169,14 @@ fn step_join(
     state: &mut AttemptState,
     ordinal: u32,
 ) -> Result<StepLine, Memory>
-    requires { CanFlowIf (ScriptAsks program.now.functions (k.Op (o.Join ordinal))) program.now.functions parts.old state.old }
-    ensures ok { IfOk result (MovesBy (ScriptAsks program.now.functions (k.Op (o.Join ordinal))) (join_move parts.old ordinal)
+    requires { CanFlowIf (ScriptAsks program.now.functions (k.Op (o.Join ordinal)))
+        program.now.functions parts.old state.old }
+    ensures ok { IfOk result (MovesBy (ScriptAsks program.now.functions (k.Op (o.Join ordinal)))
+        (join_move parts.old ordinal)
         program.now.functions parts.old parts.new state.old state.new) }
     ensures err { OnErr result (state.new ≡ state.old) }
-    ensures cut { OnErr result (CutShortBy (ScriptAsks program.now.functions (k.Op (o.Join ordinal))) (join_move parts.old ordinal)
+    ensures cut { OnErr result (CutShortBy (ScriptAsks program.now.functions (k.Op (o.Join ordinal)))
+        (join_move parts.old ordinal)
         program.now.functions parts.old parts.new state.old) }
 {
     let at = state.progress;
@@ -183,10 +199,12 @@ fn send_next(
     inline: bool,
 ) -> Result<StepLine, Memory>
     requires { CanFlowIf HasBegun program.now.functions parts.old state.old }
-    ensures ok { IfOk result (MovesBy HasBegun (send_move program.now.functions parts.old inline state.old.frame)
+    ensures ok { IfOk result (MovesBy HasBegun
+        (send_move program.now.functions parts.old inline state.old.frame)
         program.now.functions parts.old parts.new state.old state.new) }
     ensures err { OnErr result (state.new ≡ state.old) }
-    ensures cut { OnErr result (CutShortBy HasBegun (send_move program.now.functions parts.old inline state.old.frame)
+    ensures cut { OnErr result (CutShortBy HasBegun
+        (send_move program.now.functions parts.old inline state.old.frame)
         program.now.functions parts.old parts.new state.old) }
 {
     let Some(frame) = &state.frame else {
@@ -195,7 +213,12 @@ fn send_next(
     let ask = frame.ask();
     let here = value_here(ask, inline);
     send_asked(
-        alloc, program, &mut parts.book, &mut state.progress, ask, here,
+        alloc,
+        program,
+        &mut parts.book,
+        &mut state.progress,
+        ask,
+        here,
     )
 }
 

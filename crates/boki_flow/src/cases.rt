@@ -16,9 +16,9 @@ ghost use Rattle.boki_flow.specs.Flow.{FlowStandsFor};
 use crate::adopting::adopt;
 use crate::asking::step_script;
 use crate::init::step_init;
-use flow_parts::Parts;
 use attempt_state::AttemptState;
 use boki_types::{Life, Program, StepLine};
+use flow_parts::Parts;
 use lb_base::Memory;
 use std::alloc::Global;
 use step_log::{last_finish, resolve, step_at};
@@ -95,7 +95,8 @@ fn step_unended(
     line
 }
 
-/// The step of an attempt that has adopted its Init: it adopts the record at its place where that is of its next operation.
+/// The step of an attempt that has adopted its Init: it adopts the record at its place where that
+/// is of its next operation.
 fn step_on(
     alloc: Global,
     program: &Program,
@@ -123,8 +124,10 @@ pub(crate) fn is_answered(parts: &Parts, state: &AttemptState) -> bool
     requires engine { HasEngine state.now.progress.engine parts.now.book }
     requires sound { Sound parts.now.book }
     requires room { state.now.progress.answered + 1 < 2 ^ 64 }
-    ensures { (fs : List Function) (setup : Setup) (store : Store) (a : Attempt) → FlowStandsFor setup fs store a parts.now state.now → HasScript a
-        → result ≡ is_some (answers_to a (attempt_ask fs a) (nth (step_tag a.path) a.place (view parts.now.book a.engine))) }
+    ensures { (fs : List Function) (setup : Setup) (store : Store) (a : Attempt)
+        → FlowStandsFor setup fs store a parts.now state.now → HasScript a
+        → result ≡ is_some (answers_to a (attempt_ask fs a)
+        (nth (step_tag a.path) a.place (view parts.now.book a.engine))) }
 {
     let at = &state.progress;
     if !state.asks_operation() {
