@@ -33,18 +33,18 @@ returns-then-is_answered-clause-cut c =
     leads_miss_cut (λ fs. HasBegun) (λ fs. FindsAnswer fs c.args.parts.now) (λ fs. next_missed fs c.args.parts.now) (λ fs. next_missed fs c.args.parts.now) old c.miss_record.new.parts c.args.state.now
     (misses_next c.args.parts.now c.args.state.now c.is_answered.result c.if-is_answered.true c.is_answered.ensures) c.miss_record.result c.miss_record.ensures.cut
 
-pub returns-then-waiting-clause-ok : goal.returns-then-waiting-clause-ok
-returns-then-waiting-clause-ok c =
-    misses_waiting c.args.parts.now c.args.state.now c.is_answered.result c.if-is_answered.false c.is_answered.ensures c.if-waiting.true
+pub returns-then-state-clause-ok : goal.returns-then-state-clause-ok
+returns-then-state-clause-ok c =
+    misses_waiting c.args.parts.now c.args.state.now c.is_answered.result c.if-is_answered.false c.is_answered.ensures c.if-state.true
 
-pub returns-else-waiting-clause-ok : goal.returns-else-waiting-clause-ok
-returns-else-waiting-clause-ok c =
+pub returns-else-state-clause-ok : goal.returns-else-state-clause-ok
+returns-else-state-clause-ok c =
     let old = c.args.parts.now in
     leads_misses (λ fs. HasBegun) (λ fs. HasBegun) (λ fs. next_missed fs c.args.parts.now) (asked_missed) old c.miss_asked.new.parts c.args.state.now
-    (misses_asks c.args.parts.now c.args.state.now c.is_answered.result c.if-is_answered.false c.is_answered.ensures c.if-waiting.false) c.miss_asked.result c.miss_asked.ensures.ok
+    (misses_asks c.args.parts.now c.args.state.now c.is_answered.result c.if-is_answered.false c.is_answered.ensures c.if-state.false) c.miss_asked.result c.miss_asked.ensures.ok
 
-pub returns-else-waiting-clause-cut : goal.returns-else-waiting-clause-cut
-returns-else-waiting-clause-cut c =
+pub returns-else-state-clause-cut : goal.returns-else-state-clause-cut
+returns-else-state-clause-cut c =
     let old = c.args.parts.now in
     leads_miss_cut (λ fs. HasBegun) (λ fs. HasBegun) (λ fs. next_missed fs c.args.parts.now) (asked_missed) old c.miss_asked.new.parts c.args.state.now
-    (misses_asks c.args.parts.now c.args.state.now c.is_answered.result c.if-is_answered.false c.is_answered.ensures c.if-waiting.false) c.miss_asked.result c.miss_asked.ensures.cut
+    (misses_asks c.args.parts.now c.args.state.now c.is_answered.result c.if-is_answered.false c.is_answered.ensures c.if-state.false) c.miss_asked.result c.miss_asked.ensures.cut
