@@ -7,9 +7,9 @@ ghost use Rattle.boki_machine.specs.Step.{misses_record, misses_marker, misses_w
 ghost use Rattle.boki_flow.specs.Arms.{Always, Runs, HasBegun, FindsAnswer, ScriptAsks, SeesSeqnum, CanMissIf, MissesBy, MissCutShortBy, step_missed, running_missed, unended_missed, next_missed, asked_missed};
 
 use crate::cases::is_answered;
-use flow_parts::Parts;
 use attempt_state::{AttemptState, is_inline};
 use boki_types::{Answered, Ask, Body, GroupAnswer, Miss, Named, Op, Put};
+use flow_parts::Parts;
 use hm_write::{put_w, read_group_marked, read_marked, store_write};
 use lb_base::{List, Memory, Seqnum, Value, Words};
 use std::alloc::Global;
@@ -141,7 +141,14 @@ fn miss_marker(
         (λ fs setup store a. misses_marker store seq.0 (key.now ∷ [])) parts.old parts.new state.now) }
 {
     let engine = state.progress.engine;
-    match read_marked(alloc, &parts.book, &mut parts.store, engine, key.as_str(), seq)? {
+    match read_marked(
+        alloc,
+        &parts.book,
+        &mut parts.store,
+        engine,
+        key.as_str(),
+        seq,
+    )? {
         Answered::Gone => Ok(Miss::Nothing),
         Answered::Value(value) => {
             drop(value);
@@ -165,7 +172,14 @@ fn miss_group(
         (λ fs setup store a. misses_marker store seq.0 keys.now) parts.old parts.new state.now) }
 {
     let engine = state.progress.engine;
-    match read_group_marked(alloc, &parts.book, &mut parts.store, engine, keys.as_slice(), seq)? {
+    match read_group_marked(
+        alloc,
+        &parts.book,
+        &mut parts.store,
+        engine,
+        keys.as_slice(),
+        seq,
+    )? {
         GroupAnswer::Gone => Ok(Miss::Nothing),
         GroupAnswer::Values(values) => {
             drop(values);
