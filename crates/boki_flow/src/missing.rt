@@ -89,10 +89,10 @@ fn miss_on(alloc: Global, parts: &mut Parts, state: &AttemptState) -> Result<Mis
 /// The call of the record at the attempt's place, which is adopted.
 fn miss_record(alloc: Global, parts: &mut Parts, state: &AttemptState) -> Result<Miss, Memory>
     requires { CanMissIf (λ fs. FindsAnswer fs parts.old) parts.old state.now }
-    ensures ok { IfOk result (MissesBy (λ fs. FindsAnswer fs parts.old) (λ fs. next_missed fs parts.old)
-        parts.old parts.new state.now) }
-    ensures cut { OnErr result (MissCutShortBy (λ fs. FindsAnswer fs parts.old) (λ fs. next_missed fs parts.old)
-        parts.old parts.new state.now) }
+    ensures ok { IfOk result (MissesBy (λ fs. FindsAnswer fs parts.old)
+        (λ fs. next_missed fs parts.old) parts.old parts.new state.now) }
+    ensures cut { OnErr result (MissCutShortBy (λ fs. FindsAnswer fs parts.old)
+        (λ fs. next_missed fs parts.old) parts.old parts.new state.now) }
 {
     let at = &state.progress;
     match record_at(alloc, &parts.book, at.engine, at.path, at.place)? {
@@ -136,9 +136,11 @@ fn miss_marker(
 ) -> Result<Miss, Memory>
     requires { CanMissIf (λ fs. SeesSeqnum parts.old seq.0) parts.old state.now }
     ensures ok { IfOk result (MissesBy (λ fs. SeesSeqnum parts.old seq.0)
-        (λ fs setup store a. misses_marker store seq.0 (key.now ∷ [])) parts.old parts.new state.now) }
+        (λ fs setup store a. misses_marker store seq.0 (key.now ∷ []))
+        parts.old parts.new state.now) }
     ensures cut { OnErr result (MissCutShortBy (λ fs. SeesSeqnum parts.old seq.0)
-        (λ fs setup store a. misses_marker store seq.0 (key.now ∷ [])) parts.old parts.new state.now) }
+        (λ fs setup store a. misses_marker store seq.0 (key.now ∷ []))
+        parts.old parts.new state.now) }
 {
     let engine = state.progress.engine;
     match read_marked(
@@ -237,11 +239,13 @@ fn miss_write(
     key: &Words,
     value: &Value,
 ) -> Result<Miss, Memory>
-    requires { CanMissIf (λ fs. ScriptAsks fs (k.Op (o.Write key.now value.now))) parts.old state.now }
+    requires { CanMissIf (λ fs. ScriptAsks fs (k.Op (o.Write key.now value.now)))
+        parts.old state.now }
     ensures ok { IfOk result (MissesBy (λ fs. ScriptAsks fs (k.Op (o.Write key.now value.now)))
         (λ fs setup store a. misses_write setup a store key.now value.now a.mode a.late)
         parts.old parts.new state.now) }
-    ensures cut { OnErr result (MissCutShortBy (λ fs. ScriptAsks fs (k.Op (o.Write key.now value.now)))
+    ensures cut { OnErr result (MissCutShortBy
+        (λ fs. ScriptAsks fs (k.Op (o.Write key.now value.now)))
         (λ fs setup store a. misses_write setup a store key.now value.now a.mode a.late)
         parts.old parts.new state.now) }
 {
@@ -260,8 +264,8 @@ fn miss_write(
 
 /// Whether the value of a write is to stand in its record, or is stored under its name already.
 fn has_value(parts: &Parts, state: &AttemptState, value: &Value) -> bool
-    ensures { result ≡ ((is_new_engine parts.now.newer state.now.progress.engine && is_short_value value.now)
-        || state.now.progress.stored) }
+    ensures { result ≡ ((is_new_engine parts.now.newer state.now.progress.engine
+        && is_short_value value.now) || state.now.progress.stored) }
 {
     let at = &state.progress;
     is_inline(parts.newer, at.engine, value) || at.stored
@@ -274,12 +278,16 @@ fn miss_put(
     key: &Words,
     value: &Value,
 ) -> Result<Miss, Memory>
-    requires { CanMissIf (λ fs. ScriptAsks fs (k.Op (o.Write key.now value.now))) parts.old state.now }
+    requires { CanMissIf (λ fs. ScriptAsks fs (k.Op (o.Write key.now value.now)))
+        parts.old state.now }
     ensures ok { IfOk result (MissesBy (λ fs. ScriptAsks fs (k.Op (o.Write key.now value.now)))
-        (λ fs setup store a. misses_put (put_at key.now a.cursor (suc a.free_writes) store) a store key.now value.now)
+        (λ fs setup store a. misses_put (put_at key.now a.cursor (suc a.free_writes) store)
+        a store key.now value.now)
         parts.old parts.new state.now) }
-    ensures cut { OnErr result (MissCutShortBy (λ fs. ScriptAsks fs (k.Op (o.Write key.now value.now)))
-        (λ fs setup store a. misses_put (put_at key.now a.cursor (suc a.free_writes) store) a store key.now value.now)
+    ensures cut { OnErr result (MissCutShortBy
+        (λ fs. ScriptAsks fs (k.Op (o.Write key.now value.now)))
+        (λ fs setup store a. misses_put (put_at key.now a.cursor (suc a.free_writes) store)
+        a store key.now value.now)
         parts.old parts.new state.now) }
 {
     let at = &state.progress;
