@@ -1,5 +1,5 @@
 -- What lost store calls do.
-use Rattle.std.proofs.Common.{◌≡◌, ◌∙◌, inl, ℕ, zero, suc, ◌+◌, ◌-◌, ◌<◌, ◌≤◌, ◌&&◌, ◌||◌, not, Bool, true, false, cond, ltb, List, [], ◌∷◌, Option, Some, None, option_map, is_some, refl, sym, ap, subst, arith}
+use Rattle.std.proofs.Common.{◌≡◌, ◌∙◌, inl, ℕ, suc, ◌+◌, ◌<◌, ◌≤◌, ◌&&◌, ◌||◌, not, Bool, true, false, cond, ltb, List, [], ◌∷◌, Option, Some, None, option_map, is_some, refl, sym, ap, subst, arith}
 use Rattle.lb_base.specs.declared.value.Mode.{Mode}
 use Rattle.lb_base.specs.declared.value.Mode.TheVariants.{R, W, T}
 use Rattle.lb_base.specs.declared.value.Outcome.{Outcome}
@@ -25,14 +25,13 @@ use Rattle.boki_types.specs.declared.store.Named.{Named}
 use Rattle.boki_types.specs.declared.store.Named.TheVariants as named
 use Rattle.boki_types.specs.declared.store.Put.{Put}
 use Rattle.boki_types.specs.declared.store.Put.TheVariants as put
-use Rattle.boki_model.specs.Bodies.{step_tag, step_of}
+use Rattle.boki_model.specs.Bodies.{step_tag}
 use Rattle.boki_model.specs.Live.{Live}
-use Rattle.boki_model.specs.Modes.{result_of}
 use Rattle.boki_model.specs.Reads.{nth}
-use Rattle.boki_model.specs.Writes.{Store, read_fenced, after_read_fenced, raise_fences, put_at, put_answer, puts_version, has_version, fence, after_put, put_named, add_if_new, after_put_named}
+use Rattle.boki_model.specs.Writes.{Store, raise_fences, put_at, put_answer, has_version, fence, after_put, put_named, add_if_new, after_put_named}
 use Rattle.boki_machine.specs.Attempt.{Attempt, call_of}
 use Rattle.machine_laws.specs.Ends.{finish_in, last_tagged}
-use Rattle.boki_machine.specs.Step.{Missed, nothing_missed, is_running, misses_if, misses_with, misses_placed, misses_at, misses_asked, misses_record, misses_marker, misses_write, misses_put, misses_store, is_inline, is_new_engine, is_short_value, next_write_name, attempt_ask, answers_to, has_index, fenced_value}
+use Rattle.boki_machine.specs.Step.{Missed, nothing_missed, is_running, misses_if, misses_with, misses_placed, misses_at, misses_asked, misses_record, misses_marker, misses_write, misses_put, misses_store, is_inline, is_new_engine, is_short_value, next_write_name, attempt_ask, answers_to}
 use Rattle.script_run.specs.Frames.{FrameState}
 use Rattle.hm_read.specs.Kept.{IsKept}
 use Rattle.hm_read.proofs.Kept.{unchanged_is_kept}
@@ -47,13 +46,13 @@ use Rattle.attempt_state.specs.declared.state.AttemptState.{AttemptState}
 use Rattle.attempt_state.specs.Attempts.{AttemptStandsFor, HasScript}
 use Rattle.attempt_state.specs.Deciding.{writes_freely}
 use Rattle.flow_parts.specs.declared.parts.Parts.{Parts}
-use Rattle.flow_parts.specs.Parts.{PartsStandFor, IsCutShort}
+use Rattle.flow_parts.specs.Parts.{PartsStandFor}
 use Rattle.boki_flow.specs.Flow.{FlowStandsFor, IsMissed}
 use Rattle.boki_flow.specs.Arms.{Always, Runs, HasBegun, FindsAnswer, ScriptAsks, SeesSeqnum, MissesBy, MissCutShortBy, step_missed, running_missed, unended_missed, next_missed, asked_missed}
 use Rattle.flow_parts.proofs.Appended.{stored_stands}
 use Rattle.boki_flow.proofs.Leading.{Leads}
 use Rattle.boki_flow.proofs.Standing.{asks_is, no_frame}
-use Rattle.boki_flow.proofs.StepCases.{Found, runs_by, none_by, life_is, result_is, place_is, begun, found_there}
+use Rattle.boki_flow.proofs.StepCases.{runs_by, none_by, life_is, result_is, place_is, begun, found_there}
 
 -- Nothing is done.
 pub misses_none : (setup : Setup) (fs : List Function) (store : Store) (a : Attempt) (parts : Parts) (kept : AttemptState)
@@ -156,8 +155,8 @@ module _ (parts : Parts) (kept : AttemptState) where
         → cond w (nothing_missed store) (asked_missed fs setup store a) ≡ next_missed fs parts setup store a
     by_waiting fs setup store a w stands script waits =
         sym (
-          ap (misses_at setup a store (attempt_ask fs a)) (none_by _ (sym (answers fs setup store a stands script) ∙ is))
-          ∙ ap (λ (v : Bool). cond v (nothing_missed store) (asked_missed fs setup store a)) (sym (ap (λ (p : Progress). p.waiting) stands.attempt.progress) ∙ waits)
+        ap (misses_at setup a store (attempt_ask fs a)) (none_by _ (sym (answers fs setup store a stands script) ∙ is))
+        ∙ ap (λ (v : Bool). cond v (nothing_missed store) (asked_missed fs setup store a)) (sym (ap (λ (p : Progress). p.waiting) stands.attempt.progress) ∙ waits)
         )
 
     pub misses_waiting : kept.progress.waiting ≡ true → MissesBy (λ fs. HasBegun) (λ fs. next_missed fs parts) parts parts kept what.Nothing
@@ -329,8 +328,8 @@ module _ (parts : Parts) (kept : AttemptState) (key : List ℕ) (v : Value) wher
         → cond there (nothing_missed store) (misses_store (ltb a.cursor store.floor) a store v) ≡ write_missed fs setup store a
     by_there fs setup store a there stands is =
         sym (
-          logged_by setup a store key v a.mode a.late (mode_is fs a false stands.attempt logged)
-          ∙ ap (λ (t : Bool). cond t (nothing_missed store) (misses_store (ltb a.cursor store.floor) a store v)) (there_is fs setup store a stands ∙ is)
+        logged_by setup a store key v a.mode a.late (mode_is fs a false stands.attempt logged)
+        ∙ ap (λ (t : Bool). cond t (nothing_missed store) (misses_store (ltb a.cursor store.floor) a store v)) (there_is fs setup store a stands ∙ is)
         )
 
     pub misses_there : is_there ≡ true → MissesBy (λ fs. ScriptAsks fs asked) write_missed parts parts kept what.Nothing

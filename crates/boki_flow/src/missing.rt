@@ -7,9 +7,9 @@ ghost use Rattle.boki_machine.specs.Step.{misses_record, misses_marker, misses_w
 ghost use Rattle.boki_flow.specs.Arms.{Always, Runs, HasBegun, FindsAnswer, ScriptAsks, SeesSeqnum, CanMissIf, MissesBy, MissCutShortBy, step_missed, running_missed, unended_missed, next_missed, asked_missed};
 
 use crate::cases::is_answered;
-use flow_parts::Parts;
 use attempt_state::{AttemptState, is_inline};
 use boki_types::{Answered, Ask, Body, GroupAnswer, Miss, Named, Op, Put};
+use flow_parts::Parts;
 use hm_write::{put_w, read_group_marked, read_marked, store_write};
 use lb_base::{List, Memory, Seqnum, Value, Words};
 use std::alloc::Global;
@@ -89,10 +89,10 @@ fn miss_on(alloc: Global, parts: &mut Parts, state: &AttemptState) -> Result<Mis
 /// The call of the record at the attempt's place, which is adopted.
 fn miss_record(alloc: Global, parts: &mut Parts, state: &AttemptState) -> Result<Miss, Memory>
     requires { CanMissIf (λ fs. FindsAnswer fs parts.old) parts.old state.now }
-    ensures ok { IfOk result (MissesBy (λ fs. FindsAnswer fs parts.old) (λ fs. next_missed fs parts.old)
-        parts.old parts.new state.now) }
-    ensures cut { OnErr result (MissCutShortBy (λ fs. FindsAnswer fs parts.old) (λ fs. next_missed fs parts.old)
-        parts.old parts.new state.now) }
+    ensures ok { IfOk result (MissesBy (λ fs. FindsAnswer fs parts.old)
+        (λ fs. next_missed fs parts.old) parts.old parts.new state.now) }
+    ensures cut { OnErr result (MissCutShortBy (λ fs. FindsAnswer fs parts.old)
+        (λ fs. next_missed fs parts.old) parts.old parts.new state.now) }
 {
     let at = &state.progress;
     match record_at(alloc, &parts.book, at.engine, at.path, at.place)? {
@@ -136,12 +136,21 @@ fn miss_marker(
 ) -> Result<Miss, Memory>
     requires { CanMissIf (λ fs. SeesSeqnum parts.old seq.0) parts.old state.now }
     ensures ok { IfOk result (MissesBy (λ fs. SeesSeqnum parts.old seq.0)
-        (λ fs setup store a. misses_marker store seq.0 (key.now ∷ [])) parts.old parts.new state.now) }
+        (λ fs setup store a. misses_marker store seq.0 (key.now ∷ []))
+        parts.old parts.new state.now) }
     ensures cut { OnErr result (MissCutShortBy (λ fs. SeesSeqnum parts.old seq.0)
-        (λ fs setup store a. misses_marker store seq.0 (key.now ∷ [])) parts.old parts.new state.now) }
+        (λ fs setup store a. misses_marker store seq.0 (key.now ∷ []))
+        parts.old parts.new state.now) }
 {
     let engine = state.progress.engine;
-    match read_marked(alloc, &parts.book, &mut parts.store, engine, key.as_str(), seq)? {
+    match read_marked(
+        alloc,
+        &parts.book,
+        &mut parts.store,
+        engine,
+        key.as_str(),
+        seq,
+    )? {
         Answered::Gone => Ok(Miss::Nothing),
         Answered::Value(value) => {
             drop(value);
@@ -165,7 +174,14 @@ fn miss_group(
         (λ fs setup store a. misses_marker store seq.0 keys.now) parts.old parts.new state.now) }
 {
     let engine = state.progress.engine;
-    match read_group_marked(alloc, &parts.book, &mut parts.store, engine, keys.as_slice(), seq)? {
+    match read_group_marked(
+        alloc,
+        &parts.book,
+        &mut parts.store,
+        engine,
+        keys.as_slice(),
+        seq,
+    )? {
         GroupAnswer::Gone => Ok(Miss::Nothing),
         GroupAnswer::Values(values) => {
             drop(values);
@@ -223,11 +239,13 @@ fn miss_write(
     key: &Words,
     value: &Value,
 ) -> Result<Miss, Memory>
-    requires { CanMissIf (λ fs. ScriptAsks fs (k.Op (o.Write key.now value.now))) parts.old state.now }
+    requires { CanMissIf (λ fs. ScriptAsks fs (k.Op (o.Write key.now value.now)))
+        parts.old state.now }
     ensures ok { IfOk result (MissesBy (λ fs. ScriptAsks fs (k.Op (o.Write key.now value.now)))
         (λ fs setup store a. misses_write setup a store key.now value.now a.mode a.late)
         parts.old parts.new state.now) }
-    ensures cut { OnErr result (MissCutShortBy (λ fs. ScriptAsks fs (k.Op (o.Write key.now value.now)))
+    ensures cut { OnErr result (MissCutShortBy
+        (λ fs. ScriptAsks fs (k.Op (o.Write key.now value.now)))
         (λ fs setup store a. misses_write setup a store key.now value.now a.mode a.late)
         parts.old parts.new state.now) }
 {
@@ -246,8 +264,8 @@ fn miss_write(
 
 /// Whether the value of a write is to stand in its record, or is stored under its name already.
 fn has_value(parts: &Parts, state: &AttemptState, value: &Value) -> bool
-    ensures { result ≡ ((is_new_engine parts.now.newer state.now.progress.engine && is_short_value value.now)
-        || state.now.progress.stored) }
+    ensures { result ≡ ((is_new_engine parts.now.newer state.now.progress.engine
+        && is_short_value value.now) || state.now.progress.stored) }
 {
     let at = &state.progress;
     is_inline(parts.newer, at.engine, value) || at.stored
@@ -260,12 +278,16 @@ fn miss_put(
     key: &Words,
     value: &Value,
 ) -> Result<Miss, Memory>
-    requires { CanMissIf (λ fs. ScriptAsks fs (k.Op (o.Write key.now value.now))) parts.old state.now }
+    requires { CanMissIf (λ fs. ScriptAsks fs (k.Op (o.Write key.now value.now)))
+        parts.old state.now }
     ensures ok { IfOk result (MissesBy (λ fs. ScriptAsks fs (k.Op (o.Write key.now value.now)))
-        (λ fs setup store a. misses_put (put_at key.now a.cursor (suc a.free_writes) store) a store key.now value.now)
+        (λ fs setup store a. misses_put (put_at key.now a.cursor (suc a.free_writes) store)
+        a store key.now value.now)
         parts.old parts.new state.now) }
-    ensures cut { OnErr result (MissCutShortBy (λ fs. ScriptAsks fs (k.Op (o.Write key.now value.now)))
-        (λ fs setup store a. misses_put (put_at key.now a.cursor (suc a.free_writes) store) a store key.now value.now)
+    ensures cut { OnErr result (MissCutShortBy
+        (λ fs. ScriptAsks fs (k.Op (o.Write key.now value.now)))
+        (λ fs setup store a. misses_put (put_at key.now a.cursor (suc a.free_writes) store)
+        a store key.now value.now)
         parts.old parts.new state.now) }
 {
     let at = &state.progress;

@@ -1,30 +1,25 @@
 -- A sweep of the object store.
-use Rattle.std.proofs.Common.{◌≡◌, ◌∙◌, ◌⊎◌, inl, inr, ℕ, suc, ◌-◌, ◌≤◌, ◌<◌, ◌&&◌, Bool, true, false, cond, eqb, leb, ltb, max, List, [], ◌∷◌, ◌++◌, length, Option, Some, None, option_map, refl, sym, ap, ap₂, subst, append-nil, arith}
+use Rattle.std.proofs.Common.{◌≡◌, ◌∙◌, ◌⊎◌, inl, inr, ℕ, suc, ◌≤◌, ◌<◌, ◌&&◌, Bool, true, false, cond, eqb, leb, ltb, List, [], ◌∷◌, ◌++◌, Option, Some, None, option_map, refl, sym, ap, ap₂, subst, append-nil, arith}
 use Rattle.std.specs.Option.{option_map_or}
-use Rattle.std.specs.Prelude.{nat_le, nat_lt}
 use Rattle.std.proofs.Math.Nat.{le_refl}
 use Rattle.std.proofs.lemmas.Bool.{eqb-true, eqb-false, ne_eqb, leb-true, leb-false, le-leb, lt-ltb, le-ltb, ltb-true, ltb-false}
 use Rattle.lb_base.specs.declared.value.Record.{Record}
-use Rattle.lb_base.specs.declared.value.Seqnum.{Seqnum}
 use Rattle.lb_base.specs.declared.value.Value.{Value}
 use Rattle.boki_types.specs.declared.body.Body.{Body}
 use Rattle.boki_types.specs.declared.body.Body.TheVariants as b
-use Rattle.boki_types.specs.declared.event.Event.{Event}
 use Rattle.boki_types.specs.declared.event.Event.TheVariants as event
-use Rattle.boki_types.specs.declared.line.Line.{Line}
 use Rattle.boki_types.specs.declared.line.Line.TheVariants as line
 use Rattle.boki_types.specs.declared.plan.Setup.{Setup}
 use Rattle.boki_types.specs.declared.program.Function.{Function}
 use Rattle.boki_types.specs.declared.store.Name.{Name}
 use Rattle.boki_types.specs.declared.store.Settled.{Settled}
 use Rattle.boki_model.specs.Floor.{floor, counted_trim}
-use Rattle.boki_model.specs.Live.{LogRecord, Live, live, upto, is_live}
+use Rattle.boki_model.specs.Live.{LogRecord, Live, upto, is_live}
 use Rattle.boki_model.specs.Order.{order, at_seq}
 use Rattle.boki_model.specs.LogLaws.{FallBelow}
 use Rattle.boki_model.specs.Plans.{is_event}
 use Rattle.boki_model.specs.Writes.{Store, logged_write, after_sweep, held_count}
 use Rattle.boki_model.proofs.Logs.{fall_more}
-use Rattle.boki_machine.specs.Machine as machine
 use Rattle.boki_machine.specs.Machine.{Machine, EventResult, event_result, live_records, apply_event}
 use Rattle.boki_machine.specs.Step.{seqnum}
 use Rattle.log_folds.specs.Bounds.{record_at}

@@ -38,7 +38,8 @@ fn settled_writes(
 ) -> Result<List<Settled>, Memory>
     requires engine { HasEngine engine book.now }
     requires sound { Sound book.now }
-    ensures { IfOk result (λ settled. settled ≡ logged_between low.0 high.0 (view book.now engine)) }
+    ensures { IfOk result (λ settled.
+        settled ≡ logged_between low.0 high.0 (view book.now engine)) }
 {
     let mut settled = List::new(alloc);
     for seq in low.0..high.0 {
@@ -74,7 +75,8 @@ fn push_write(
     bytes: &[u8],
     settled: &mut List<Settled>,
 ) -> Result<(), Memory>
-    ensures { OnOk result (settled.new ≡ settled.old ++ settled_of true seq.0 (logged_write (body_of bytes.now))) }
+    ensures { OnOk result (settled.new ≡ settled.old
+        ++ settled_of true seq.0 (logged_write (body_of bytes.now))) }
 {
     match decode(alloc, bytes) {
         Ok(body) => push_body(seq, body, settled),

@@ -1,7 +1,6 @@
-use Rattle.std.proofs.Common.{◌≡◌, ℕ, List, subst}
+use Rattle.std.proofs.Common.{ℕ, List, subst}
 use Rattle.boki_types.specs.declared.store.GroupAnswer.{GroupAnswer}
 use Rattle.hm_write.specs.Marked.{ReadsGroupMarked}
-use Rattle.boki_flow.proofs.Standing.{has_engine}
 use Rattle.boki_flow.proofs.Misses.{group_gone, group_read}
 use Rattle.boki_flow.proofs.missing.miss_group.Goals as goal
 

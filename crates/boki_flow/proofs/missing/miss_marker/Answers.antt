@@ -1,4 +1,4 @@
-use Rattle.std.proofs.Common.{◌≡◌, ℕ, List, subst}
+use Rattle.std.proofs.Common.{ℕ, List, subst}
 use Rattle.boki_types.specs.declared.store.Answered.{Answered}
 use Rattle.hm_write.specs.Marked.{ReadsMarked}
 use Rattle.boki_flow.proofs.Standing.{has_engine}

@@ -1,4 +1,4 @@
-use Rattle.std.proofs.Common.{◌≡◌, ◌+◌, ℕ, List, sym, subst, arith}
+use Rattle.std.proofs.Common.{ℕ, List, subst}
 use Rattle.hm_write.specs.Stores.{PutsFree}
 use Rattle.boki_flow.specs.Arms.{ScriptAsks}
 use Rattle.boki_types.specs.declared.operation.Ask.TheVariants as k

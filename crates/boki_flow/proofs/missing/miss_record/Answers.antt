@@ -4,7 +4,7 @@ use Rattle.boki_flow.specs.Arms.{FindsAnswer, SeesSeqnum, next_missed}
 use Rattle.boki_flow.proofs.Leading.{can_miss_if, leads_misses, leads_miss_cut}
 use Rattle.boki_flow.proofs.Standing.{has_engine}
 use Rattle.boki_flow.proofs.StepCases.{found_none}
-use Rattle.boki_flow.proofs.Misses.{misses_found, miss_cut_before}
+use Rattle.boki_flow.proofs.Misses.{misses_found}
 use Rattle.boki_flow.proofs.missing.miss_record.Goals as goal
 
 pub at-requires : goal.at-requires

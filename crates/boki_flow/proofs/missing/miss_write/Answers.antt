@@ -1,10 +1,8 @@
-use Rattle.std.proofs.Common.{◌≡◌, ◌∙◌, sym, ap, subst}
+use Rattle.std.proofs.Common.{◌∙◌, sym, subst}
 use Rattle.boki_types.specs.declared.operation.Ask.TheVariants as k
 use Rattle.boki_types.specs.declared.operation.Op.TheVariants as o
 use Rattle.boki_types.specs.declared.store.Named.{Named}
 use Rattle.hm_write.specs.Stores.{StoresNamed}
-use Rattle.boki_model.specs.Writes.{put_at}
-use Rattle.boki_machine.specs.Step.{misses_write, misses_put}
 use Rattle.boki_flow.specs.Arms.{ScriptAsks}
 use Rattle.boki_flow.proofs.Standing.{on_err}
 use Rattle.boki_flow.proofs.Leading.{leads_misses, leads_miss_cut}

@@ -20,13 +20,12 @@ loop-seq-preserved c =
     let engine = c.args.engine in
     let i = c.loop-seq.invariant in
     let seq = c.loop-seq.seq in
-    let next : suc seq ≡ seq + 1 = omega arith in
-    (
+    let next : suc seq ≡ seq + 1 = omega arith in (
       c.in_ok-add_write.ensures ∙ ap (λ (s : List Settled). s ++ write_in (view book engine) seq) i.0
-      ∙ sym (between_more c.args.low.0 seq (suc (position book engine)) (view book engine) (view_falls book engine) i.1)
-      ∙ ap (λ n. logged_between c.args.low.0 n (view book engine)) next,
+          ∙ sym (between_more c.args.low.0 seq (suc (position book engine)) (view book engine) (view_falls book engine) i.1)
+          ∙ ap (λ n. logged_between c.args.low.0 n (view book engine)) next,
       omega (arith, i.1),
-      inr (omega arith)
+      inr (omega arith),
     )
 
 pub returns : goal.returns
