@@ -1,4 +1,4 @@
-use Rattle.std.proofs.Common.{ap}
+use Rattle.std.proofs.Common.{ap, arith}
 use Rattle.cluster_run.proofs.AttemptEvents.{one_there}
 use Rattle.cluster_run.proofs.Stepped.{can_flow, step_done, step_ignored, flows}
 use Rattle.cluster_run.proofs.attempts.step_attempt.Goals as goal
@@ -15,7 +15,7 @@ returns-in_ok-line-in-Some c setup m valid all =
     let es = c.args.attempts.now.entries in
     let one = one_there fs m es all.stand c.get_mut.ensures.unique c.args.number c.in-Some.attempt.now c.in-Some.ensures.value in
     step_done setup fs m old es all c.args.number one.0 one.1 c.get_mut.ensures.unique c.step.new.parts (c.get_mut.follows.lender c.step.new.self).entries
-    c.in-Some.attempt.now c.step.new.self c.in_ok-line-in-Some.line one.2 valid ?few
+    c.in-Some.attempt.now c.step.new.self c.in_ok-line-in-Some.line one.2 valid (omega (arith, c.length-length.ensures, c.length-length.type_inv))
     (c.in_ok-line-in-Some.ensures.ok setup m.store one.0 (flows setup fs m old es all c.args.number one.0 one.1 c.in-Some.attempt.now one.2)) (c.get_mut.follows.holds c.step.new.self).0
 
 pub returns-in-None : goal.returns-in-None
