@@ -1,5 +1,5 @@
 -- What the program answers to a request, or to words that make none.
-use Rattle.std.specs.Prelude.{◌≢◌, ℕ, Bool, true, false, List, Option, Some, None, IfSome}
+use Rattle.std.specs.Prelude.{◌≢◌, ℕ, Bool, true, false, List, Option, Some, IfSome}
 use Rattle.command_line.specs.declared.request.Request.{Request}
 use Rattle.command_line.specs.declared.request.Request.TheVariants.{Run, Judge, Check, Make, Live}
 use Rattle.nemesis_types.specs.Automaton.{Automaton}

@@ -1,5 +1,5 @@
 -- Parts whose book has one more record of a step.
-use Rattle.std.proofs.Common.{ℕ, subst, sym}
+use Rattle.std.proofs.Common.{ℕ}
 use Rattle.boki_types.specs.declared.body.Body.{Body}
 use Rattle.boki_types.specs.declared.plan.Setup.{Setup}
 use Rattle.boki_model.specs.Live.{LogRecord}

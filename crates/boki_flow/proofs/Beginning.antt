@@ -1,5 +1,5 @@
 -- An attempt that begins: what its engine finds at place 0, and the moves that adopt, wait for and send its Init.
-use Rattle.std.proofs.Common.{◌≡◌, ◌∙◌, inl, ℕ, zero, Bool, true, false, List, [], Option, Some, None, option_map, refl, sym, ap, subst}
+use Rattle.std.proofs.Common.{◌≡◌, ◌∙◌, inl, ℕ, Bool, true, false, List, Option, Some, None, option_map, refl, sym, ap, subst}
 use Rattle.std.specs.Prelude.{unwrap_or}
 use Rattle.lb_base.specs.declared.value.Mode.{Mode}
 use Rattle.boki_types.specs.declared.body.Body.{Body}
@@ -27,7 +27,7 @@ use Rattle.attempt_log.specs.Moves as log
 use Rattle.attempt_log.specs.Moves.{attempt_state}
 use Rattle.attempt_log.proofs.Moves.{inits_are_moves}
 use Rattle.flow_parts.specs.declared.parts.Parts.{Parts}
-use Rattle.flow_parts.specs.Parts.{PartsStandFor, KeepsParts}
+use Rattle.flow_parts.specs.Parts.{KeepsParts}
 use Rattle.boki_flow.specs.Flow.{FlowStandsFor, IsMoved}
 use Rattle.boki_flow.specs.Arms.{IsCalled, IsCalledBy, CutShortBy, init_move, adopts_init}
 use Rattle.boki_flow.proofs.Leading.{Leads}

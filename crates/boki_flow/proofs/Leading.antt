@@ -1,5 +1,5 @@
 -- One arm leads to another: what the one needs gives what the other needs, and its move is the other's.
-use Rattle.std.proofs.Common.{◌≡◌, List, Result, sym, ap, subst}
+use Rattle.std.proofs.Common.{◌≡◌, List, Result, ap, subst}
 use Rattle.std.specs.Prelude.{IfOk, OnErr}
 use Rattle.std.proofs.lemmas.Result.{IfOk-weaker, on_err_weaker}
 use Rattle.boki_types.specs.declared.line.Miss.{Miss}

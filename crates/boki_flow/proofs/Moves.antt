@@ -1,5 +1,5 @@
 -- Moves of the pieces as moves of the whole.
-use Rattle.std.proofs.Common.{◌≡◌, ℕ, List, Option, Some, None, refl, sym, ap, subst}
+use Rattle.std.proofs.Common.{◌≡◌, ℕ, List, Option, Some, None, refl, sym, subst}
 use Rattle.boki_types.specs.declared.body.Body.{Body}
 use Rattle.boki_types.specs.declared.line.StepLine.{StepLine}
 use Rattle.boki_types.specs.declared.plan.Setup.{Setup}

@@ -1,5 +1,5 @@
 -- What a script asks is sent: what the call needs, and the move that it makes.
-use Rattle.std.proofs.Common.{◌≡◌, ◌∙◌, ◌^◌, ℕ, suc, Bool, true, false, List, Option, Some, None, option_map, refl, sym, ap, subst}
+use Rattle.std.proofs.Common.{◌≡◌, ◌∙◌, ◌^◌, ℕ, Bool, true, List, Option, Some, None, option_map, refl, sym, ap, subst}
 use Rattle.std.specs.Prelude.{unwrap_or, IsTrue}
 use Rattle.std.proofs.lemmas.Bool.{lt-ltb}
 use Rattle.lb_base.specs.declared.value.Value.{Value}

@@ -1,5 +1,5 @@
 -- The book and the store of a machine that holds the invariant can be reported, and the report is the machine's.
-use Rattle.std.proofs.Common.{◌≡◌, ℕ, suc, ◌≤◌, List, length, None, Some, refl, sym, ap, subst, ◌∙◌}
+use Rattle.std.proofs.Common.{◌≡◌, ℕ, suc, ◌≤◌, List, length, None, sym, ap, subst, ◌∙◌}
 use Rattle.boki_types.specs.declared.body.Body.{Body}
 use Rattle.boki_types.specs.declared.program.Function.{Function}
 use Rattle.boki_types.specs.declared.turn.Report.{Report}
@@ -8,17 +8,17 @@ use Rattle.boki_model.specs.Order.{order}
 use Rattle.boki_model.specs.Folds.{queues, commits, store_values}
 use Rattle.boki_model.specs.Modes.{result_of}
 use Rattle.boki_model.specs.Writes.{Store}
-use Rattle.boki_machine.specs.Machine.{Machine, log, live_records}
-use Rattle.boki_machine.specs.Reports.{results, objects, report}
+use Rattle.boki_machine.specs.Machine.{log, live_records}
+use Rattle.boki_machine.specs.Reports.{results, objects}
 use Rattle.boki_machine.specs.Turns.{turns}
 use Rattle.exactly_once.specs.FurtherLaws.Words.{IsAmong}
 use Rattle.machine_laws.specs.Ends.{EndsLast}
 use Rattle.machine_laws.proofs.Attempts.{floor_is_within}
 use Rattle.machine_laws.proofs.Ends.{holding_ends_last}
 use Rattle.machine_laws.proofs.Open.{open_are_above}
-use Rattle.book_api.specs.Books.{BookState, ordered}
+use Rattle.book_api.specs.Books.{ordered}
 use Rattle.step_log.specs.Sound.{bodies, live_bodies}
-use Rattle.cluster_report.specs.Reported.{report_in, HoldingIsReported}
+use Rattle.cluster_report.specs.Reported.{HoldingIsReported}
 use Rattle.cluster_report.proofs.Walks.{length_is}
 
 -- the report of some ordered records

@@ -1,6 +1,6 @@
 -- The values of the known keys are the objects of the definition.
-use Rattle.std.proofs.Common.{◌≡◌, ◌⊎◌, inl, inr, ℕ, suc, ◌<◌, ◌≤◌, Bool, true, false, cond, ltb, is_lt, is_eq, ◌||◌, List, [], ◌∷◌, ◌++◌, length, Option, Some, None, Ordering, option_map, refl, sym, ap, subst, ◌∙◌, arith}
-use Rattle.std.specs.Prelude.{bytes_eq, option_and_then}
+use Rattle.std.proofs.Common.{◌≡◌, ◌⊎◌, inl, inr, ℕ, suc, Bool, true, false, cond, ltb, is_lt, ◌||◌, List, [], ◌∷◌, ◌++◌, Option, Some, None, option_map, refl, sym, ap, ◌∙◌, arith}
+use Rattle.std.specs.Prelude.{bytes_eq}
 use Rattle.std.specs.Option.{option_or}
 use Rattle.std.specs.Map.{keys_of}
 use Rattle.std.specs.FinMap.Entries.{below_all, is_sorted}
@@ -14,7 +14,7 @@ use Rattle.boki_model.specs.Live.{Live}
 use Rattle.boki_model.specs.LogLaws.{FallBelow}
 use Rattle.boki_model.specs.MapLaws.{InOrder}
 use Rattle.boki_model.specs.Maps.{key_order, get, put, has}
-use Rattle.boki_model.specs.Writes.{Store, NamedValue, Version, Write, write_at, prepend_some, here_or_named, logged_write_of, logged_write, logged_writes, version_writes, initial_writes, initial_keys, logged_key, logged_keys_below, writes_of, last_write_below, last_value_below}
+use Rattle.boki_model.specs.Writes.{Store, NamedValue, Version, Write, write_at, prepend_some, here_or_named, logged_write_of, logged_write, logged_writes, version_writes, initial_writes, initial_keys, logged_key, logged_keys_below, last_write_below, last_value_below}
 use Rattle.boki_model.proofs.Logs.{fall_more}
 use Rattle.boki_model.proofs.KeyMaps.{put_in_order}
 use Rattle.boki_machine.specs.Reports.{objects, add_value}

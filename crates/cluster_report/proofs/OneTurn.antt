@@ -1,5 +1,5 @@
 -- The turn of one record.
-use Rattle.std.proofs.Common.{◌≡◌, ℕ, ◌+◌, ◌≤◌, List, [], ◌∷◌, ◌++◌, Option, Some, None, Result, Ok, Err, OnOk, refl, sym, ap, ◌∙◌}
+use Rattle.std.proofs.Common.{◌≡◌, ℕ, ◌+◌, ◌≤◌, List, [], ◌∷◌, ◌++◌, Option, Some, None, Result, Ok, Err, OnOk, sym, ap, ◌∙◌}
 use Rattle.boki_types.specs.declared.body.Body.{Body}
 use Rattle.boki_types.specs.declared.body.Body.TheVariants as b
 use Rattle.boki_types.specs.declared.program.Function.{Function}
@@ -14,7 +14,7 @@ use Rattle.obj_store.specs.Kept.{StoreState}
 use Rattle.obj_store.specs.StandsFor.{StandsFor}
 use Rattle.cluster_report.specs.declared.turning.Walk.{Walk}
 use Rattle.cluster_report.specs.declared.turning.TurnKind.TheVariants as kind
-use Rattle.cluster_report.specs.Turned.{kind_of, HasVersions, AddsTurn}
+use Rattle.cluster_report.specs.Turned.{kind_of, AddsTurn}
 
 module _ {T E : Type 0} where
   pub on_any : (r : Result T E) (A : Type 0) → A → OnOk r A

@@ -14,7 +14,7 @@ use Rattle.boki_model.specs.Live.{Live, upto}
 use Rattle.boki_model.specs.LogLaws.{FallBelow}
 use Rattle.boki_model.specs.Maps.{get, put}
 use Rattle.boki_model.specs.Modes.{finish_of, result_of}
-use Rattle.boki_model.specs.Writes.{Store, Version, versions_at}
+use Rattle.boki_model.specs.Writes.{Store, versions_at}
 use Rattle.boki_machine.specs.Turns.{turn_of, turns_to, turns, add_next_index}
 use Rattle.exactly_once.specs.FurtherLaws.StoreBound.{Finishes}
 use Rattle.exactly_once.specs.FurtherLaws.Words.{IsAmong}

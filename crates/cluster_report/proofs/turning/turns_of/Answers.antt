@@ -1,7 +1,5 @@
-use Rattle.std.proofs.Common.{◌≡◌, ◌∙◌, ◌-◌, ◌+◌, ◌<◌, ℕ, suc, [], refl, sym, arith, rules}
-use Rattle.cluster_report.specs.Turned.{AddsAt}
+use Rattle.std.proofs.Common.{◌≡◌, ◌∙◌, ◌-◌, ◌+◌, suc, [], arith, rules}
 use Rattle.cluster_report.proofs.Passed.{none_passed, all_passed, pass_at}
-use Rattle.cluster_report.proofs.Walks.{holds_at}
 use Rattle.cluster_report.proofs.turning.turns_of.Goals as goal
 
 pub loop-passed-init : goal.loop-passed-init
