@@ -14,7 +14,7 @@ use Rattle.boki_types.specs.declared.log.Sent.{Sent}
 use Rattle.boki_types.specs.declared.body.Body.{Body}
 use Rattle.boki_types.specs.declared.store.Put.{Put}
 use Rattle.boki_types.specs.declared.store.Put.TheVariants as put
-use Rattle.boki_model.specs.Live.{Live, LogRecord}
+use Rattle.boki_model.specs.Live.{Live}
 use Rattle.boki_model.specs.Writes.{Store, put_at, is_settled}
 use Rattle.boki_machine.specs.Attempt.{Attempt, Move}
 use Rattle.boki_machine.specs.Step.{reads, reads_group, writes, free_write_step, logged_write_step, script_step, attempt_ask, is_inline, is_new_engine, is_short_value, next_write_name}

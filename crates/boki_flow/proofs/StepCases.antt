@@ -1,5 +1,5 @@
 -- The cases of a step, in the order of the step table.
-use Rattle.std.proofs.Common.{◌≡◌, ◌∙◌, ◌⊎◌, inl, ℕ, zero, suc, ◌-◌, ◌<◌, ◌≤◌, Bool, true, false, cond, List, Option, Some, None, option_map, is_some, refl, sym, ap, subst, arith}
+use Rattle.std.proofs.Common.{◌≡◌, ◌∙◌, inl, ℕ, suc, ◌-◌, ◌<◌, ◌≤◌, Bool, true, false, cond, List, Option, Some, None, option_map, is_some, refl, sym, ap, subst, arith}
 use Rattle.std.specs.Option.{option_and_then}
 use Rattle.boki_types.specs.declared.body.Body.{Body}
 use Rattle.boki_types.specs.declared.line.Life.{Life}
@@ -16,17 +16,15 @@ use Rattle.boki_types.specs.declared.program.Function.{Function}
 use Rattle.lb_base.specs.declared.value.Outcome.{Outcome}
 use Rattle.lb_base.specs.declared.value.Seqnum.{Seqnum}
 use Rattle.boki_model.specs.Bodies.{step_tag, step_of}
-use Rattle.boki_model.specs.Live.{Live, LogRecord}
+use Rattle.boki_model.specs.Live.{Live}
 use Rattle.boki_model.specs.Modes.{result_of}
 use Rattle.boki_model.specs.Reads.{nth}
 use Rattle.boki_model.specs.Writes.{Store}
 use Rattle.boki_machine.specs.Attempt.{Attempt, Move, moves, call_of, next_index}
-use Rattle.boki_machine.specs.Step.{is_running, step_if_running, step_when_called, step_at_place, init_step, continue_step, unless_waiting, script_step, attempt_ask, answers_to, adopt_or, has_index}
+use Rattle.boki_machine.specs.Step.{is_running, step_if_running, step_when_called, step_at_place, unless_waiting, attempt_ask, answers_to, adopt_or, has_index}
 use Rattle.log_folds.proofs.ByTag.{of_tag}
 use Rattle.fold_cache.proofs.Found.{below_among, view_falls}
 use Rattle.machine_laws.specs.Ends.{finish_in, last_tagged}
-use Rattle.script_run.specs.Frames.{FrameState}
-use Rattle.attempt_log.specs.Moves.{IsAppendedIfAny}
 use Rattle.attempt_state.specs.declared.progress.Progress.{Progress}
 use Rattle.attempt_state.specs.declared.state.AttemptState.{AttemptState}
 use Rattle.attempt_state.specs.Attempts.{AttemptStandsFor, HasScript}

@@ -1,11 +1,9 @@
-use Rattle.std.proofs.Common.{◌≡◌, ◌∙◌, Option, Some, IsTrue, refl, sym, ap, subst, rules}
-use Rattle.boki_types.specs.declared.operation.Ask.{Ask}
+use Rattle.std.proofs.Common.{Option, Some, IsTrue, sym, subst}
 use Rattle.lb_base.specs.declared.value.Value.{Value}
 use Rattle.boki_model.specs.Bodies.{in_range}
 use Rattle.attempt_log.specs.Sent.{asked_body}
-use Rattle.boki_flow.specs.Arms.{HasBegun, send_move}
-use Rattle.boki_flow.proofs.Standing.{weaker_ok, on_err, same_cut, has_engine, room, no_frame, asked_is}
-use Rattle.boki_flow.proofs.SentAsks.{range, has_path, ask_sent}
+use Rattle.boki_flow.proofs.Standing.{weaker_ok, has_engine, room, asked_is}
+use Rattle.boki_flow.proofs.SentAsks.{range, ask_sent}
 use Rattle.boki_flow.proofs.asking.send_next.Goals as goal
 
 pub send_asked-requires-clause-engine : goal.send_asked-requires-clause-engine

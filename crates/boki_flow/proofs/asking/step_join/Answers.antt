@@ -1,5 +1,4 @@
-use Rattle.std.proofs.Common.{◌≡◌, ◌∙◌, ℕ, List, Option, false, sym, ap}
-use Rattle.lb_base.specs.declared.value.Outcome.{Outcome}
+use Rattle.std.proofs.Common.{◌∙◌, ℕ, List, false, sym, ap}
 use Rattle.boki_types.specs.declared.operation.Ask.TheVariants as k
 use Rattle.boki_types.specs.declared.operation.Op.TheVariants as o
 use Rattle.boki_model.specs.Bodies.{step_tag}

@@ -1,5 +1,4 @@
 use Rattle.std.proofs.Common.{◌≡◌, ◌∙◌, true, false, IfOk, OnErr, refl, sym, ap, subst, rules}
-use Rattle.boki_types.specs.declared.operation.Ask.{Ask}
 use Rattle.boki_types.specs.declared.operation.Ask.TheVariants as k
 use Rattle.boki_types.specs.declared.operation.Op.TheVariants as o
 use Rattle.attempt_state.specs.declared.state.AttemptState.{AttemptState}

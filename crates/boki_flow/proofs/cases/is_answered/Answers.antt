@@ -1,4 +1,4 @@
-use Rattle.std.proofs.Common.{◌≡◌, ◌∙◌, ◌==◌, ℕ, Some, None, sym, ap}
+use Rattle.std.proofs.Common.{◌∙◌, ◌==◌, ℕ, Some, None, sym, ap}
 use Rattle.boki_flow.proofs.StepCases.{unanswered, answered}
 use Rattle.boki_flow.proofs.cases.is_answered.Goals as goal
 

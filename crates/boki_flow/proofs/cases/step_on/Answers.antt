@@ -1,4 +1,3 @@
-use Rattle.std.proofs.Common.{◌∙◌, sym}
 use Rattle.boki_flow.specs.Arms.{HasBegun, FindsAnswer, next_move, script_move}
 use Rattle.boki_flow.proofs.Leading.{can_if, leads_moves, leads_cut}
 use Rattle.boki_flow.proofs.Standing.{has_engine, sound, room}

@@ -1,8 +1,8 @@
 use Rattle.std.proofs.Common.{◌∙◌, sym}
 use Rattle.boki_flow.specs.Arms.{Runs, running_move, unended_move}
-use Rattle.boki_flow.proofs.Leading.{can_if, leads_moves, leads_cut}
+use Rattle.boki_flow.proofs.Leading.{leads_moves, leads_cut}
 use Rattle.boki_flow.proofs.Standing.{has_engine}
-use Rattle.boki_flow.proofs.StepCases.{cut_before, overs, unended}
+use Rattle.boki_flow.proofs.StepCases.{overs, unended}
 use Rattle.boki_flow.proofs.cases.step_running.Goals as goal
 
 pub last_finish-requires : goal.last_finish-requires
