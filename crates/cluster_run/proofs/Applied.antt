@@ -20,18 +20,10 @@ use Rattle.step_laws.specs.Kept.{MachineIsKept, IsTextEvent}
 use Rattle.step_laws.proofs.Kept.{events_keep_machine}
 use Rattle.attempt_state.specs.declared.state.AttemptState.{AttemptState}
 use Rattle.flow_parts.specs.declared.parts.Parts.{Parts}
-use Rattle.cluster_events.specs.Machines.{PartsAreOf, IsEventDone, CanDo, CanDoAny, DoesEvent, DoesEventAny}
+use Rattle.cluster_events.specs.Machines.{PartsAreOf, IsEventDone, DoesEvent, DoesEventAny}
 use Rattle.cluster_run.specs.Clusters.{AttemptsStandFor}
-use Rattle.cluster_run.specs.Attempts.{AllAreOf, CanDoAll, IsDoneToAttempts, DoesAll, DoesToAttempts}
+use Rattle.cluster_run.specs.Attempts.{IsDoneToAttempts, DoesAll, DoesToAttempts}
 use Rattle.cluster_run.specs.Groups.{is_of_attempts}
-
--- What can be done to all can be done to the parts.
-
-pub can_do : (fs : List Function) (event : Event) (parts : Parts) (attempts : List (ℕ × AttemptState)) → CanDoAll fs event parts attempts → CanDo fs event parts
-can_do fs event parts attempts can = record { setup = can.setup; machine = can.machine; valid = can.valid; are = can.all.are }
-
-pub can_do_any : (fs : List Function) (event : Event) (parts : Parts) → CanDo fs event parts → CanDoAny event parts
-can_do_any fs event parts can = record { functions = fs; can = can }
 
 -- what is done whatever the functions are is done for these
 pub if_done_for :
@@ -109,10 +101,6 @@ module _ (fs : List Function) (event : Event) (old new : Parts) (attempts : List
 
   pub if_any_done : {E : Type 0} (r : Result Line E) → IfOk r (DoesEventAny event old new) → IfOk r (DoesAll fs event old new attempts attempts)
   if_any_done r does = IfOk-weaker r (DoesEventAny event old new) (DoesAll fs event old new attempts attempts) (λ line any. parts_done line (any fs)) does
-
--- nothing happens at a seed
-pub seed_done : (fs : List Function) (n : ℕ) (parts : Parts) (attempts : List (ℕ × AttemptState)) → DoesAll fs (event.Seed n) parts parts attempts attempts line.Seeded
-seed_done fs n parts attempts setup m valid all = record { line_is = refl; all = all; text = record { valid = valid; bytes = refl; text = tt } }
 
 -- The parts stay as they are.
 

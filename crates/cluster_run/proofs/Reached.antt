@@ -7,14 +7,11 @@ use Rattle.boki_types.specs.declared.event.Event.{Event}
 use Rattle.boki_types.specs.declared.line.Line.{Line}
 use Rattle.boki_types.specs.declared.plan.Setup.{Setup}
 use Rattle.boki_types.specs.declared.program.Function.{Function}
-use Rattle.boki_machine.specs.Machine.{Machine, log, initial_machine, apply_event, apply_events, catch_up_all}
+use Rattle.boki_machine.specs.Machine.{Machine, initial_machine, apply_event, apply_events, catch_up_all}
 use Rattle.step_laws.specs.Kept.{IsTextEvent}
-use Rattle.attempt_state.specs.declared.state.AttemptState.{AttemptState}
-use Rattle.flow_parts.specs.declared.parts.Parts.{Parts}
-use Rattle.cluster_events.specs.Machines.{PartsAreOf, CatchesAll}
 use Rattle.cluster_events.proofs.CatchAll.{catch_each, caught_by_events, catches_are}
 use Rattle.cluster_run.specs.Clusters.{ClusterState, IsReached, StandsFor, IsDone}
-use Rattle.cluster_run.specs.Attempts.{AllAreOf, IsAllDone}
+use Rattle.cluster_run.specs.Attempts.{IsAllDone}
 
 all_append : {A : Type 0} (P : A → Type 0) (xs ys : List A) → AllByRecursion P xs → AllByRecursion P ys → AllByRecursion P (xs ++ ys)
 all_append P [] ys one two = two

@@ -1,11 +1,8 @@
 -- What a cluster needs and does, by what is done to its parts and attempts.
-use Rattle.std.proofs.Common.{◌≡◌, ◌∙◌, ℕ, ◌+◌, ◌^◌, ◌<◌, ◌≤◌, ◌&&◌, Bool, true, false, leb, List, [], ◌∷◌, length, Result, reverse, refl, sym, ap, ap₂, subst, arith}
+use Rattle.std.proofs.Common.{◌≡◌, ◌∙◌, ℕ, false, List, [], length, Result, refl, sym, ap, subst}
 use Rattle.std.specs.Prelude.{IsTrue, IfOk}
-use Rattle.std.proofs.lemmas.Bool.{and_parts, leb-true}
 use Rattle.std.proofs.lemmas.Result.{IfOk-weaker}
 use Rattle.lb_base.specs.declared.value.Value.{Value}
-use Rattle.lb_base.specs.declared.value.Outcome.{Outcome}
-use Rattle.boki_types.specs.declared.body.Body.{Body}
 use Rattle.boki_types.specs.declared.event.Event.{Event}
 use Rattle.boki_types.specs.declared.line.Line.{Line}
 use Rattle.boki_types.specs.declared.plan.Plan.{Plan}
@@ -13,25 +10,18 @@ use Rattle.boki_types.specs.declared.plan.Setup.{Setup}
 use Rattle.boki_types.specs.declared.program.Function.{Function}
 use Rattle.boki_types.specs.declared.turn.Report.{Report}
 use Rattle.boki_types.specs.declared.turn.Turn.{Turn}
-use Rattle.boki_model.specs.Folds as fold
-use Rattle.boki_model.specs.Live.{LogRecord, Live, live}
-use Rattle.boki_model.specs.Order.{order}
 use Rattle.boki_model.specs.Plans.{is_event}
 use Rattle.boki_model.specs.Writes.{Store}
-use Rattle.boki_machine.specs.Machine.{Machine, log, live_records, initial_machine, apply_event, catch_up_all}
-use Rattle.boki_machine.specs.Reports as reports
+use Rattle.boki_machine.specs.Machine.{Machine, log, initial_machine, apply_event, catch_up_all}
 use Rattle.boki_machine.specs.Reports.{report}
 use Rattle.boki_machine.specs.Turns.{turns}
-use Rattle.book_api.specs.Books.{BookState, ordered}
+use Rattle.book_api.specs.Books.{ordered}
 use Rattle.step_log.specs.Sound.{live_bodies}
-use Rattle.script_ranges.specs.Asks.{AreFunctions}
-use Rattle.attempt_state.specs.declared.state.AttemptState.{AttemptState}
-use Rattle.flow_parts.specs.declared.parts.Parts.{Parts}
-use Rattle.cluster_events.specs.Machines.{PartsAreOf, AreParts, CatchesAll}
+use Rattle.cluster_events.specs.Machines.{PartsAreOf, CatchesAll}
 use Rattle.cluster_events.proofs.Cuts.{log_length}
 use Rattle.cluster_report.specs.Reported.{CanReport, HoldingIsReported, ReportsMachine, objects_in, report_in}
-use Rattle.cluster_run.specs.Attempts.{CanDoAll, DoesAll}
-use Rattle.cluster_run.specs.Clusters.{ClusterState, StandsFor, StandsForOne, StandsForPlan, StandsForSome, IsSoundCluster, IsOfPlan, IsOpened, IsReached, DoesEvent, CatchesAllUp}
+use Rattle.cluster_run.specs.Attempts.{DoesAll}
+use Rattle.cluster_run.specs.Clusters.{ClusterState, StandsFor, StandsForOne, StandsForPlan, StandsForSome, IsSoundCluster, IsOfPlan, IsOpened, DoesEvent, CatchesAllUp}
 use Rattle.cluster_run.proofs.Reached.{is_done, reached_caught}
 
 -- A new cluster.
@@ -57,22 +47,6 @@ opened_sound plan c is e = record {
   stands = is.stands;
 }
 
-pub opened_of_plan : (plan : Plan) (c : ClusterState) → IsOpened plan c → IsOfPlan plan c
-opened_of_plan plan c is e = record { objects = plan.objects; machine = initial_machine plan.setup plan.objects; stands = is.stands }
-
-pub opened_stands :
-    (plan : Plan) (c : ClusterState) → IsOpened plan c
-    → StandsForOne plan.setup plan.program.functions (initial_machine plan.setup plan.objects) c
-opened_stands plan c is = record { objects = plan.objects; stands = is.stands }
-
--- A marked cluster is anyone's.
-
-pub marked_is_sound : (c : ClusterState) → c.marked ≡ true → IsSoundCluster c
-marked_is_sound c marked unmarked = absurd (let h : ⊥ = cc in h)
-
-pub marked_is_of_plan : (plan : Plan) (c : ClusterState) → c.marked ≡ true → IsOfPlan plan c
-marked_is_of_plan plan c marked unmarked = absurd (let h : ⊥ = cc in h)
-
 pub sound_by_plan : (plan : Plan) (c : ClusterState) → IsOfPlan plan c → IsSoundCluster c
 sound_by_plan plan c of unmarked =
     let some : StandsForPlan plan c = of unmarked in
@@ -80,26 +54,21 @@ sound_by_plan plan c of unmarked =
 
 -- An event.
 
-module _ (plan : Plan) (event : Event) (old : ClusterState) (valid : IsTrue (is_event plan.setup plan.program.functions event)) where
-  pub can_apply : IsOfPlan plan old → old.marked ≡ false → CanDoAll plan.program.functions event old.parts old.attempts
-  can_apply of unmarked =
+module _ (plan : Plan) (event : Event) (old : ClusterState) (valid : IsTrue (is_event plan.setup plan.program.functions event))
+    (new : ClusterState) (line : Line) where
+  pub does_event : DoesAll plan.program.functions event old.parts new.parts old.attempts new.attempts line → DoesEvent plan.setup plan.program.functions event old new line
+  does_event does objects m stands =
+      is_done plan.setup plan.program.functions objects event m old new line stands
+      (does plan.setup m valid (record { are = stands.are; stand = stands.attempts }))
+
+  pub still_of_plan : DoesAll plan.program.functions event old.parts new.parts old.attempts new.attempts line → IsOfPlan plan old → old.marked ≡ false → IsOfPlan plan new
+  still_of_plan does of unmarked e =
       let some : StandsForPlan plan old = of unmarked in
-      record { setup = plan.setup; machine = some.machine; valid = valid; all = record { are = some.stands.are; stand = some.stands.attempts } }
-
-  module _ (new : ClusterState) (line : Line) where
-    pub does_event : DoesAll plan.program.functions event old.parts new.parts old.attempts new.attempts line → DoesEvent plan.setup plan.program.functions event old new line
-    does_event does objects m stands =
-        is_done plan.setup plan.program.functions objects event m old new line stands
-        (does plan.setup m valid (record { are = stands.are; stand = stands.attempts }))
-
-    pub still_of_plan : DoesAll plan.program.functions event old.parts new.parts old.attempts new.attempts line → IsOfPlan plan old → old.marked ≡ false → IsOfPlan plan new
-    still_of_plan does of unmarked e =
-        let some : StandsForPlan plan old = of unmarked in
-        record {
-          objects = some.objects;
-          machine = (apply_event plan.setup plan.program.functions some.machine event).machine;
-          stands = (does_event does some.objects some.machine some.stands).stands;
-        }
+      record {
+        objects = some.objects;
+        machine = (apply_event plan.setup plan.program.functions some.machine event).machine;
+        stands = (does_event does some.objects some.machine some.stands).stands;
+      }
 
 -- whatever the plan's objects are
 pub event_done :
@@ -116,9 +85,6 @@ pub if_event_done :
 if_event_done r setup fs event old new does = IfOk-weaker r _ _ (λ line d. event_done setup fs event old new line d) does
 
 -- Every engine is caught up.
-
-pub are_parts : (c : ClusterState) → StandsForSome c → AreParts c.parts
-are_parts c some = record { setup = some.setup; functions = some.functions; machine = some.machine; are = some.stands.are }
 
 module _ (old new : ClusterState) (same : new.attempts ≡ old.attempts) (n : ℕ) (caught : CatchesAll old.parts new.parts n) where
   stands_caught :
@@ -148,24 +114,10 @@ module _ (setup : Setup) (fs : List Function) (m : Machine) (c : ClusterState) (
   pub log_is : length (ordered c.parts.book) ≡ length (log m)
   log_is = sym (log_length m c.parts.book one.stands.are.book)
 
-  records_are : live_bodies c.parts.book ≡ live_records m
-  records_are =
-      ap₂ (λ (shards : List (List (LogRecord Body))) (vectors : List (List ℕ)). live (order shards vectors))
-      (sym one.stands.are.book.shards) (sym one.stands.are.book.vectors)
-
   reported : HoldingIsReported → ReportsMachine fs c.parts.book c.parts.store m
   reported law =
       let are = one.stands.are in
       law setup fs m c.parts.book c.parts.store are.kept.holds are.book.shards are.book.vectors are.stand.kept
-
-  pub results_are : reports.results (live_bodies c.parts.book) ≡ (report fs m).results
-  results_are = ap reports.results records_are
-
-  pub queues_are : fold.queues (live_bodies c.parts.book) ≡ (report fs m).queues
-  queues_are = ap fold.queues records_are
-
-  pub stores_are : fold.store_values (fold.commits (live_bodies c.parts.book)) ≡ (report fs m).stores
-  stores_are = ap (λ (records : List (Live Body)). fold.store_values (fold.commits records)) records_are
 
   pub report_is : HoldingIsReported → (r : Report) → ((s : Store) → CanReport c.parts.book c.parts.store s → r ≡ report_in fs s c.parts.book) → r ≡ report fs m
   report_is law r told = let is = reported law in told m.store is.can ∙ is.same

@@ -8,9 +8,10 @@ use crate::attempts::{kill_attempt, lose_record, miss_attempt, restart, start, s
 use boki_flow::{Attempt, Parts};
 use boki_types::{Event, Line, Program};
 use book_api::Gate;
-use cluster_events::{append, cond, end_switch, submit, switch, trim, trim_tag};
-use cluster_events::{aux, next, prev, set_aux, settled, tail};
-use cluster_events::{catch, copy, cut, sweep, sync};
+use cluster_events::{
+    append, aux, catch, cond, copy, cut, end_switch, next, prev, set_aux, settled, submit, sweep,
+    switch, sync, tail, trim, trim_tag,
+};
 use indexmap::IndexMap;
 use lb_base::Memory;
 use std::alloc::Global;
@@ -27,7 +28,8 @@ pub(crate) fn apply<R: Threads + Sync, G: Gate + Sync>(
     gate: &G,
 ) -> Result<Line, Memory>
     requires { CanDoAll program.now.functions event.now parts.old attempts.old.entries }
-    ensures { IfOk result (DoesAll program.now.functions event.now parts.old parts.new attempts.old.entries attempts.new.entries) }
+    ensures { IfOk result (DoesAll program.now.functions event.now parts.old parts.new
+        attempts.old.entries attempts.new.entries) }
 {
     match event {
         Event::Copy { .. } | Event::Cut | Event::Catch { .. } | Event::Sync => {
@@ -78,12 +80,7 @@ fn order<R: Threads + Sync, G: Gate + Sync>(
 }
 
 /// An event that sends a record of no attempt.
-fn send(
-    alloc: Global,
-    program: &Program,
-    parts: &mut Parts,
-    event: &Event,
-) -> Result<Line, Memory>
+fn send(alloc: Global, program: &Program, parts: &mut Parts, event: &Event) -> Result<Line, Memory>
     requires group { IsTrue (is_sending event.now) }
     requires can { CanDo program.now.functions event.now parts.old }
     ensures { IfOk result (DoesEvent program.now.functions event.now parts.old parts.new) }
@@ -141,7 +138,8 @@ fn attempt(
 ) -> Result<Line, Memory>
     requires group { IsTrue (is_of_attempts event.now) }
     requires can { CanDoAll program.now.functions event.now parts.old attempts.old.entries }
-    ensures { IfOk result (DoesAll program.now.functions event.now parts.old parts.new attempts.old.entries attempts.new.entries) }
+    ensures { IfOk result (DoesAll program.now.functions event.now parts.old parts.new
+        attempts.old.entries attempts.new.entries) }
 {
     match event {
         Event::Start {

@@ -31,9 +31,11 @@ impl Model for Cluster {
 
     ghost Value = { ClusterState };
 
-    ghost view = { λ c. record { parts = c.parts; attempts = c.attempts.entries; marked = c.marked } };
+    ghost view = { λ c.
+        record { parts = c.parts; attempts = c.attempts.entries; marked = c.marked } };
 
-    ghost invariant = { λ c. IsSoundCluster (record { parts = c.parts; attempts = c.attempts.entries; marked = c.marked }) };
+    ghost invariant = { λ c. IsSoundCluster
+        (record { parts = c.parts; attempts = c.attempts.entries; marked = c.marked }) };
 }
 
 impl Cluster {
@@ -62,7 +64,8 @@ impl Cluster {
     ) -> Result<Line, Memory>
         requires valid { IsTrue (is_event plan.now.setup plan.now.program.functions event.now) }
         requires plan { IsOfPlan plan.now self.old }
-        ensures done { IfOk result (DoesEvent plan.now.setup plan.now.program.functions event.now self.old self.new) }
+        ensures done { IfOk result (DoesEvent plan.now.setup plan.now.program.functions event.now
+            self.old self.new) }
         ensures plan { IsOfPlan plan.now self.new }
         ensures marks { MarksOnMemory self.old self.new result }
     {
@@ -71,7 +74,13 @@ impl Cluster {
         }
         self.marked = true;
         let line = apply(
-            self.alloc, rt, &plan.program, &mut self.parts, &mut self.attempts, event, gate,
+            self.alloc,
+            rt,
+            &plan.program,
+            &mut self.parts,
+            &mut self.attempts,
+            event,
+            gate,
         )?;
         self.marked = false;
         Ok(line)

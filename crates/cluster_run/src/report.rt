@@ -16,7 +16,8 @@ impl Cluster {
     /// The whole report, by the plan's program.
     pub fn report(&self, plan: &Plan) -> Result<Report, Memory>
         requires { IsOfPlan plan.now self.now }
-        ensures { IfOk result (λ r. (m : Machine) → StandsForOne plan.now.setup plan.now.program.functions m self.now
+        ensures { IfOk result (λ r. (m : Machine) →
+            StandsForOne plan.now.setup plan.now.program.functions m self.now
             → r ≡ report plan.now.program.functions m) }
     {
         if self.marked {
@@ -34,7 +35,8 @@ impl Cluster {
     /// The turns, the oldest first, by the plan's program.
     pub fn turns(&self, plan: &Plan) -> Result<List<Turn>, Memory>
         requires { IsOfPlan plan.now self.now }
-        ensures { IfOk result (λ turns. (m : Machine) → StandsForOne plan.now.setup plan.now.program.functions m self.now
+        ensures { IfOk result (λ turns. (m : Machine) →
+            StandsForOne plan.now.setup plan.now.program.functions m self.now
             → turns ≡ (report plan.now.program.functions m).turns) }
     {
         if self.marked {
@@ -51,8 +53,8 @@ impl Cluster {
 
     /// The results of the invocations that have ended, in the order of paths.
     pub fn results(&self) -> Result<List<(Path, Outcome)>, Memory>
-        ensures { IfOk result (λ results. (setup : Setup) (fs : List Function) (m : Machine) → StandsForOne setup fs m self.now
-            → results ≡ (report fs m).results) }
+        ensures { IfOk result (λ results. (setup : Setup) (fs : List Function) (m : Machine) →
+            StandsForOne setup fs m self.now → results ≡ (report fs m).results) }
     {
         if self.marked {
             return Err(Memory);
@@ -62,8 +64,8 @@ impl Cluster {
 
     /// The objects, in the order of keys.
     pub fn objects(&self) -> Result<List<(Words, Value)>, Memory>
-        ensures { IfOk result (λ objects. (setup : Setup) (fs : List Function) (m : Machine) → StandsForOne setup fs m self.now
-            → objects ≡ (report fs m).objects) }
+        ensures { IfOk result (λ objects. (setup : Setup) (fs : List Function) (m : Machine) →
+            StandsForOne setup fs m self.now → objects ≡ (report fs m).objects) }
     {
         if self.marked {
             return Err(Memory);
@@ -74,8 +76,8 @@ impl Cluster {
 
     /// The queues with a push or a pop, in the order of their names, each with its front first.
     pub fn queues(&self) -> Result<List<(Words, List<Value>)>, Memory>
-        ensures { IfOk result (λ queues. (setup : Setup) (fs : List Function) (m : Machine) → StandsForOne setup fs m self.now
-            → queues ≡ (report fs m).queues) }
+        ensures { IfOk result (λ queues. (setup : Setup) (fs : List Function) (m : Machine) →
+            StandsForOne setup fs m self.now → queues ≡ (report fs m).queues) }
     {
         if self.marked {
             return Err(Memory);
@@ -85,8 +87,8 @@ impl Cluster {
 
     /// The store names that a commit which succeeded wrote, in their order.
     pub fn stores(&self) -> Result<List<(Words, Value)>, Memory>
-        ensures { IfOk result (λ stores. (setup : Setup) (fs : List Function) (m : Machine) → StandsForOne setup fs m self.now
-            → stores ≡ (report fs m).stores) }
+        ensures { IfOk result (λ stores. (setup : Setup) (fs : List Function) (m : Machine) →
+            StandsForOne setup fs m self.now → stores ≡ (report fs m).stores) }
     {
         if self.marked {
             return Err(Memory);

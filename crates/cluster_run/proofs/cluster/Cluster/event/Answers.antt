@@ -1,4 +1,4 @@
-use Rattle.std.proofs.Common.{◌≡◌, false, sym, subst}
+use Rattle.std.proofs.Common.{false, sym, subst}
 use Rattle.cluster_run.specs.Clusters.{ClusterState, IsOfPlan, DoesEvent}
 use Rattle.cluster_run.proofs.Whole.{sound_by_plan, does_event, still_of_plan}
 use Rattle.cluster_run.proofs.cluster.Cluster.event.Goals as goal

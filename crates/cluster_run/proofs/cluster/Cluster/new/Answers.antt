@@ -1,5 +1,5 @@
 use Rattle.std.proofs.Common.{false, refl}
-use Rattle.cluster_run.specs.Clusters.{ClusterState, IsOpened}
+use Rattle.cluster_run.specs.Clusters.{ClusterState}
 use Rattle.cluster_run.proofs.Whole.{opened, opened_sound}
 use Rattle.cluster_run.proofs.cluster.Cluster.new.Goals as goal
 
