@@ -21,10 +21,12 @@ pub(crate) fn start(
     ensures done { IfOk result (DoesToAttempts (event.Start number path engine) attempts.old.entries attempts.new.entries) }
     ensures err { OnErr result (attempts.new.entries ≡ attempts.old.entries) }
 {
+    // `len` says that no two have one number, which the proof cites.
+    let _count = attempts.len();
     if attempts.contains_key(&number) {
         return Ok(Line::Ignored);
     }
-    attempts.insert(number, Attempt::new(path, engine)?)?;
+    drop(attempts.insert(number, Attempt::new(path, engine)?)?);
     Ok(Line::Started)
 }
 

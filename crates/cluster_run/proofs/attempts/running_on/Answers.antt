@@ -5,7 +5,9 @@ use Rattle.cluster_run.proofs.Killing.{count_if, one_counted}
 use Rattle.cluster_run.proofs.attempts.running_on.Goals as goal
 
 pub loop-attempt-init : goal.loop-attempt-init
-loop-attempt-init c = ap (running_count c.args.engine) (c.into_iter-attempt-iterator.ensures.into_iter_gives ∙ c.iter-attempt-items.ensures.rest)
+loop-attempt-init c =
+    let all = ap (running_count c.args.engine) (c.into_iter-attempt-iterator.ensures.into_iter_gives ∙ c.iter-attempt-items.ensures.rest) in
+    omega (arith, all)
 
 pub loop-attempt-preserved-then-runs_on : goal.loop-attempt-preserved-then-runs_on
 loop-attempt-preserved-then-runs_on c =
@@ -24,6 +26,6 @@ loop-attempt-preserved c =
 
 pub returns : goal.returns
 returns c =
-    let left = ap (running_count c.args.engine) c.in-None.ensures.steps in
+    let left = ap (running_count c.args.engine) c.in-None.ensures.steps.0 in
     let before = c.loop-attempt.invariant in
     omega (arith, left, before)
