@@ -5,7 +5,7 @@ ghost use Rattle.output_lines.specs.Outputs.{output_text};
 
 use crate::cluster::Cluster;
 use boki_types::{Event, Line, Plan, Report};
-use book_api::{Gate, NoGate};
+use book_api::NoGate;
 use lb_base::{Memory, Words};
 use output_lines::{print_added, print_ignored, print_planned};
 use plan_lang::valid;
@@ -19,14 +19,11 @@ impl run_loops::Cluster for Cluster {
 
     ghost line_text = { output_text };
 
-    // The gate of a trait's method can't be handed to other threads, so none is passed: who holds engines back calls the
-    // cluster's own `event`.
-    fn event<R: Threads + Sync, G: Gate + Sync>(
+    fn event<R: Threads + Sync>(
         &mut self,
         rt: &R,
         plan: &Plan,
         event: &Event,
-        _gate: &G,
     ) -> Result<Line, Memory> {
         self.event(rt, plan, event, &NoGate)
     }
