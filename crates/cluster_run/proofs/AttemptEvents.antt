@@ -1,17 +1,15 @@
 -- What the events of attempts do to what is kept.
-use Rattle.std.proofs.Common.{◌≡◌, ◌∙◌, ℕ, Bool, true, false, cond, eqb, List, ◌∷◌, ◌++◌, [], length, reverse, Option, Some, None, refl, sym, ap, subst}
-use Rattle.std.specs.Prelude.{IsTrue}
+use Rattle.std.proofs.Common.{◌≡◌, ◌∙◌, ℕ, Bool, true, false, cond, eqb, List, ◌∷◌, ◌++◌, [], reverse, Option, Some, None, refl, sym, ap, subst}
 use Rattle.std.specs.Option.{is_some}
 use Rattle.std.specs.List.{IsDistinct}
 use Rattle.std.specs.Map.{lookup, keys_of, set_value}
 use Rattle.std.proofs.lemmas.List.{reverse-reverse}
 use Rattle.boki_types.specs.declared.event.Event.TheVariants as event
-use Rattle.boki_types.specs.declared.line.Line.{Line}
 use Rattle.boki_types.specs.declared.line.Line.TheVariants as line
 use Rattle.boki_types.specs.declared.plan.Setup.{Setup}
 use Rattle.boki_types.specs.declared.program.Function.{Function}
 use Rattle.boki_machine.specs.Attempt.{Attempt, new_attempt}
-use Rattle.boki_machine.specs.Step.{is_running, after_kill, can_lose, after_lose}
+use Rattle.boki_machine.specs.Step.{is_running, after_kill, after_lose}
 use Rattle.boki_machine.specs.Machine.{Machine, NumberedAttempt, EventResult, event_result, attempt_at, set_attempt, start_attempt, kill_attempt, lose_record}
 use Rattle.attempt_state.specs.Progresses.{awaits_record}
 use Rattle.attempt_state.specs.declared.progress.Progress.{Progress}

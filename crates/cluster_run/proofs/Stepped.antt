@@ -5,7 +5,6 @@ use Rattle.std.specs.List.{IsDistinct}
 use Rattle.std.specs.Map.{lookup, keys_of, set_value}
 use Rattle.boki_types.specs.declared.body.Body.{Body}
 use Rattle.boki_types.specs.declared.event.Event.TheVariants as event
-use Rattle.boki_types.specs.declared.line.Line.{Line}
 use Rattle.boki_types.specs.declared.line.Line.TheVariants as line
 use Rattle.boki_types.specs.declared.line.Miss.{Miss}
 use Rattle.boki_types.specs.declared.line.StepLine.{StepLine}
@@ -28,7 +27,7 @@ use Rattle.step_laws.specs.Kept.{MachineIsKept, IsTextEvent}
 use Rattle.step_laws.proofs.CanStep.{attempts_can_step}
 use Rattle.step_laws.proofs.Kept.{events_keep_machine}
 use Rattle.book_api.specs.Books.{BookState, ordered, position}
-use Rattle.step_log.specs.Sound.{live_bodies, record_of, view}
+use Rattle.step_log.specs.Sound.{live_bodies, record_of}
 use Rattle.attempt_state.specs.declared.state.AttemptState.{AttemptState}
 use Rattle.attempt_state.specs.Attempts.{AttemptStandsFor}
 use Rattle.attempt_log.specs.Moves.{IsAppendedIfAny}
@@ -129,9 +128,9 @@ module _ (setup : Setup) (fs : List Function) (m : Machine) (old : Parts) (es : 
       step_done v kept told stands valid few moved is =
           let text : IsTextEvent setup fs (event.Step n) = record { valid = valid; bytes = refl; text = tt } in
           let room : NumbersHaveRoom m (event.Step n) = (
-                ap is_u64 (log_length m old.book are.book) ∙ lt-ltb (length (ordered old.book)) (2 ^ 64) few,
-                subst HasIndex (sym there) (lt-ltb (next_index a.answers) (2 ^ 64) stands.room),
-              ) in
+            ap is_u64 (log_length m old.book are.book) ∙ lt-ltb (length (ordered old.book)) (2 ^ 64) few,
+            subst HasIndex (sym there) (lt-ltb (next_index a.answers) (2 ^ 64) stands.room),
+          ) in
           let is_kept = subst (λ (r : EventResult). MachineIsKept setup fs r.machine) stepped_is (events_keep_machine setup fs m (event.Step n) text room are.kept) in
           record {
             line_is = ap line.Step moved.line_is ∙ sym (ap (λ (r : EventResult). r.line) stepped_is);

@@ -8,13 +8,13 @@ pub loop-index-preserved : goal.loop-index-preserved
 loop-index-preserved c =
     let more : suc c.loop-index.index ≡ c.loop-index.index + 1 = omega arith in
     record {
-  kills = λ fs xs all.
-      subst (λ (n : ℕ). AttemptsStandFor fs (kill_first c.args.engine n xs) c.kill_at.new.attempts.entries) more
-      (subst (λ (l : List NumberedAttempt). AttemptsStandFor fs l c.kill_at.new.attempts.entries) (one_more c.args.engine c.loop-index.index xs)
-      (c.kill_at.ensures fs (kill_first c.args.engine c.loop-index.index xs) (c.loop-index.invariant.kills fs xs all)));
-  until = c.loop-index.invariant.until;
-  within = omega arith;
-}
+      kills = λ fs xs all.
+          subst (λ (n : ℕ). AttemptsStandFor fs (kill_first c.args.engine n xs) c.kill_at.new.attempts.entries) more
+          (subst (λ (l : List NumberedAttempt). AttemptsStandFor fs l c.kill_at.new.attempts.entries) (one_more c.args.engine c.loop-index.index xs)
+          (c.kill_at.ensures fs (kill_first c.args.engine c.loop-index.index xs) (c.loop-index.invariant.kills fs xs all)));
+      until = c.loop-index.invariant.until;
+      within = omega arith;
+    }
 
 pub returns : goal.returns
 returns c fs xs all =

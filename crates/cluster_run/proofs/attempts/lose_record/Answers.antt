@@ -1,5 +1,4 @@
-use Rattle.std.proofs.Common.{true, false, refl, sym, ap, ◌∙◌}
-use Rattle.std.specs.Option.{option_copied_mut}
+use Rattle.std.proofs.Common.{true, false, ap}
 use Rattle.cluster_run.proofs.AttemptEvents.{lose_said, lose_ignored}
 use Rattle.cluster_run.proofs.attempts.lose_record.Goals as goal
 
