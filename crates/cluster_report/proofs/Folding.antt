@@ -19,12 +19,12 @@ module _ (keys : List (List ℕ)) (book : BookState) (n : ℕ) where
   record_more : (x : Live Body) → folded keys (x ∷ seen) ≡ added x.seq x.holds (folded keys seen)
   record_more x =
       ap (λ (names : StoredNames).
-          let m : Maps = record {
-            results = add_result x.holds (results seen);
-            writes = with_write x.seq x.holds (writes_in keys seen);
-            queues = apply_to_queues x.holds (queues seen);
-            names = names;
-          } in m)
+      let m : Maps = record {
+        results = add_result x.holds (results seen);
+        writes = with_write x.seq x.holds (writes_in keys seen);
+        queues = apply_to_queues x.holds (queues seen);
+        names = names;
+      } in m)
       (changed_one x.seq (suc n) x.holds (commits seen) (commits_fall (suc n) seen (upto_falls n (suc (length (ordered book))) (live_bodies book) (falls book))))
 
   pub seqnum_more : added_some (suc n) (holds_at book (suc n)) (folded keys seen) ≡ folded keys (upto (suc n) (live_bodies book))

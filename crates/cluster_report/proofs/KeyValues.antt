@@ -1,5 +1,5 @@
 -- What is told of the known keys.
-use Rattle.std.proofs.Common.{◌≡◌, ℕ, suc, ◌≤◌, ltb, cond, List, [], ◌∷◌, ◌++◌, Option, Some, None, refl, sym, ap, ◌∙◌}
+use Rattle.std.proofs.Common.{◌≡◌, ℕ, suc, ◌≤◌, cond, List, [], ◌∷◌, ◌++◌, append-nil, Option, Some, None, refl, sym, ap, ◌∙◌}
 use Rattle.std.proofs.lemmas.Bool.{le-ltb}
 use Rattle.std.proofs.lemmas.List.{append_assoc}
 use Rattle.lb_base.specs.declared.value.Value.{Value}
@@ -48,4 +48,4 @@ told_more last m records key w es old new all is told =
 
 -- a read that found nothing told nothing
 pub nothing_told : (key : List ℕ) (o : Option Value) (xs : List (List ℕ × Value)) → None ≡ o → xs ≡ xs ++ add_value key o []
-nothing_told key o xs is = sym (append_nil xs) ∙ ap (λ (x : Option Value). xs ++ add_value key x []) is
+nothing_told key o xs is = sym (append-nil xs) ∙ ap (λ (x : Option Value). xs ++ add_value key x []) is

@@ -1,4 +1,4 @@
-use Rattle.std.proofs.Common.{◌≡◌, ◌∙◌, ◌+◌, ◌≤◌, suc, length, sym, ap, arith}
+use Rattle.std.proofs.Common.{◌≡◌, ◌∙◌, ◌+◌, suc, length, sym, ap, arith}
 use Rattle.boki_model.specs.Live.{upto}
 use Rattle.book_api.specs.Books.{ordered}
 use Rattle.step_log.specs.Sound.{live_bodies}

@@ -1,5 +1,4 @@
 use Rattle.std.proofs.Common.{◌≡◌, ◌∙◌, true, false, Some, sym, ap, rules}
-use Rattle.boki_model.specs.Live.{live, is_live}
 use Rattle.book_api.specs.Books.{log_of}
 use Rattle.cluster_report.proofs.Walks.{is_found, is_missed}
 use Rattle.cluster_report.proofs.walk.live_body.Goals as goal
