@@ -101,11 +101,7 @@ impl Names {
     }
 
     /// Puts in what a commit writes.
-    pub fn put_writes(
-        &mut self,
-        writes: &[(Words, Value)],
-        commit: u64,
-    ) -> Result<(), Memory>
+    pub fn put_writes(&mut self, writes: &[(Words, Value)], commit: u64) -> Result<(), Memory>
         ensures { OnOk result (self.new ≡ put_writes commit writes.now self.old) }
     {
         'writes: for write in writes {
