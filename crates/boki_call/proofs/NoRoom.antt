@@ -1,41 +1,40 @@
 -- There was no room for splitting the words, and nothing was written.
-use Rattle.std.proofs.Common.{◌≢◌, ℕ, true, false, List, Option, Some, None}
+use Rattle.std.proofs.Common.{◌≢◌, ℕ, Bool, true, false, List, Option, Some, None}
 use Rattle.std.specs.Prelude.{IfSome}
 use Rattle.lb_base.proofs.DeviceLemmas.{AppendsPrefix-none}
 use Rattle.command_line.specs.declared.request.Request.{Request}
 use Rattle.command_line.specs.declared.request.Request.TheVariants.{Run, Judge, Check, Make, Live, Flow, Log, Audit, Mux}
+use Rattle.nemesis_types.specs.Automaton.{Automaton}
+use Rattle.nemesis_types.specs.Kept.{NumberedNemesis}
 use Rattle.call_base.specs.declared.status.Status.TheVariants.{ReadFault, Memory}
-use Rattle.call_base.specs.Due.{Meets, usage}
-use Rattle.call_base.proofs.DueLemmas.{no_room}
+use Rattle.call_base.specs.Due.{Due, Meets, usage}
 use Rattle.check_call.specs.Plans.{check_due}
 use Rattle.judge_agrees.specs.Judged.{judge_due}
 use Rattle.live_call.proofs.DueLive.{none_read}
-use Rattle.small_run.proofs.EndedRuns.{ended_runs}
-use Rattle.boki_call.specs.Answers.{Answers}
+use Rattle.run_call.specs.Runs.{run_due}
+use Rattle.run_call.specs.Words.{is_handed, kept_of}
+use Rattle.boki_call.specs.Answers.{Answers, AnswersRun}
 
-checks : (left old : Option (List ℕ)) → IfSome left (λ text. Meets Memory (check_due text) old old)
-checks None old = tt
-checks (Some text) old = AppendsPrefix-none old _
-
-judges : (left old : Option (List ℕ)) → IfSome left (λ text. Meets Memory (judge_due text) old old)
-judges None old = tt
-judges (Some text) old = AppendsPrefix-none old _
+reads : (f : List ℕ → Due) (left old : Option (List ℕ)) → IfSome left (λ text. Meets Memory (f text) old old)
+reads f None old = tt
+reads f (Some text) old = AppendsPrefix-none old _
 
 -- the usage line wasn't written
 none : (old : Option (List ℕ)) → (Memory ≢ ReadFault) × Meets Memory usage old old
 none old = (λ e. cc, AppendsPrefix-none old _)
 
-pub no_answer : (r : Option Request) (left old : Option (List ℕ)) → Answers r Memory left old old
-no_answer None left old = none old
-no_answer (Some (Run None false)) left old = (λ e. cc, ended_runs Memory left old old (λ e. cc, λ e. cc) (no_room 1048576 left old))
-no_answer (Some (Run None true)) left old = none old
-no_answer (Some (Run (Some w) json)) left old = none old
-no_answer (Some Judge) left old = (λ e. cc, judges left old)
-no_answer (Some Check) left old = (λ e. cc, checks left old)
-no_answer (Some (Make n true)) left old = (λ e. cc, AppendsPrefix-none old _)
-no_answer (Some (Make n false)) left old = none old
-no_answer (Some Live) left old = (λ e. cc, none_read left old)
-no_answer (Some Flow) left old = none old
-no_answer (Some Log) left old = none old
-no_answer (Some Audit) left old = none old
-no_answer (Some Mux) left old = none old
+runs : (b json : Bool) (kept : List NumberedNemesis) (left old : Option (List ℕ)) → AnswersRun b json kept Memory left old old
+runs true json kept left old = (λ e. cc, reads (run_due json kept) left old)
+runs false json kept left old = none old
+
+pub no_answer : (count : ℕ) (handed : List Automaton) (r : Option Request) (left old : Option (List ℕ)) → Answers count handed r Memory left old old
+no_answer count handed None left old = none old
+no_answer count handed (Some (Run with json)) left old = runs (is_handed count with) json (kept_of with handed) left old
+no_answer count handed (Some Judge) left old = (λ e. cc, reads judge_due left old)
+no_answer count handed (Some Check) left old = (λ e. cc, reads check_due left old)
+no_answer count handed (Some (Make n plan)) left old = (λ e. cc, AppendsPrefix-none old _)
+no_answer count handed (Some Live) left old = (λ e. cc, none_read left old)
+no_answer count handed (Some Flow) left old = none old
+no_answer count handed (Some Log) left old = none old
+no_answer count handed (Some Audit) left old = none old
+no_answer count handed (Some Mux) left old = none old

@@ -3,6 +3,7 @@
 
 use boki_call::{Nemesis, Status, call};
 use call_base::{StdSink, StdSource};
+use cluster_run::Cluster;
 use lb_base::Memory;
 use nemesis::{Doubler, Killer, Loser};
 use std::env;
@@ -36,7 +37,7 @@ fn answer<R: Threads + Wait + Sync>(rt: &HostRuntime, threads: &R) -> Result<Sta
     };
     let mut source = StdSource::new(rt.stdin());
     let mut sink = StdSink::new(out);
-    let status = call(
+    let status = call::<Cluster, _, _, _>(
         threads,
         alloc,
         words.as_slice(),

@@ -9,10 +9,13 @@ use Rattle.boki_types.specs.declared.body.Body.{Body}
 use Rattle.boki_types.specs.declared.body.Body.TheVariants as b
 use Rattle.boki_model.specs.Live.{Live}
 use Rattle.boki_model.specs.LogLaws.{FallBelow}
-use Rattle.boki_model.specs.Maps.{get, put, has}
+use Rattle.std.specs.declared.cmp.Ordering.{Ordering}
+use Rattle.std.specs.declared.cmp.Ordering.TheVariants.{Less, Equal, Greater}
+use Rattle.std.specs.FinMap.Entries.{by_order}
+use Rattle.boki_model.specs.Maps.{key_order, get, put, has}
 use Rattle.boki_model.specs.Folds.{Commit, written_names, intersects, succeeds, add_commit, commits, put_all, store_values}
 use Rattle.exactly_once.proofs.Log.MapChanges.{get-put}
-use Rattle.boki_txn.specs.Names.{StoredNames, stored_name, put_writes, names_behind, value_of, is_dirty, may_commit, is_good, changed_by}
+use Rattle.boki_txn.specs.Names.{StoredNames, stored_name, with_values, put_writes, names_behind, value_of, is_dirty, may_commit, is_good, changed_by}
 use Rattle.boki_txn.specs.declared.stored.StoredName.{StoredName}
 
 -- Lists of tests.
@@ -186,6 +189,26 @@ value_is n cs = at (get n (names_behind cs)) ∙ ap (λ o. unwrap_or o Nothing) 
     at : (o : Option StoredName) → option_map_or (λ (s : StoredName). s.value) o Nothing ≡ unwrap_or (value_in o) Nothing
     at None = refl
     at (Some s) = refl
+
+-- The names with their values are those of the definitions.
+value_put : (k : List ℕ) (s : StoredName) (names : StoredNames) → with_values (put k s names) ≡ put k s.value (with_values names)
+value_put k s [] = refl
+value_put k s (e ∷ es) = by (key_order k e.0) (value_put k s es)
+  where
+    by : (o : Ordering) → with_values (put k s es) ≡ put k s.value (with_values es)
+        → with_values (by_order o ((k, s) ∷ e ∷ es) ((e.0, s) ∷ es) (e ∷ put k s es))
+        ≡ by_order o ((k, s.value) ∷ (e.0, e.1.value) ∷ with_values es) ((e.0, s.value) ∷ with_values es) ((e.0, e.1.value) ∷ put k s.value (with_values es))
+    by Less ih = refl
+    by Equal ih = refl
+    by Greater ih = ap (λ (l : List (List ℕ × Value)). let m : List (List ℕ × Value) = (e.0, e.1.value) ∷ l in m) ih
+
+values_put : (seq : ℕ) (ws : List (List ℕ × Value)) (names : StoredNames) → with_values (put_writes seq ws names) ≡ put_all ws (with_values names)
+values_put seq [] names = refl
+values_put seq (w ∷ ws) names = values_put seq ws (put w.0 (stored_name seq w.1) names) ∙ ap (put_all ws) (value_put w.0 (stored_name seq w.1) names)
+
+pub values_are : (cs : List Commit) → with_values (names_behind cs) ≡ store_values cs
+values_are [] = refl
+values_are (c ∷ cs) = values_put c.seq c.writes (names_behind cs) ∙ ap (put_all c.writes) (values_are cs)
 
 -- Whether one of the commits is that of a seqnum.
 abbrev commits_with : ℕ → List Commit → Bool

@@ -1,5 +1,5 @@
 -- Store names, each with its value and the commit that wrote it last.
-use Rattle.std.specs.Prelude.{ℕ, nat_lt, not, ◌&&◌, if◌then◌else◌, Bool, false, List, [], ◌∷◌}
+use Rattle.std.specs.Prelude.{ℕ, map, nat_lt, not, ◌&&◌, if◌then◌else◌, Bool, false, List, [], ◌∷◌}
 use Rattle.std.specs.List.{list_any}
 use Rattle.std.specs.Option.{option_map_or}
 use Rattle.lb_base.specs.declared.value.Value.{Value}
@@ -25,6 +25,10 @@ put_writes commit (w ∷ ws) names = put_writes commit ws (put w.0 (stored_name 
 abbrev pub names_behind : List Commit → StoredNames
 names_behind [] = []
 names_behind (c ∷ cs) = put_writes c.seq c.writes (names_behind cs)
+
+-- the names with their values
+abbrev pub with_values : StoredNames → List (List ℕ × Value)
+with_values names = map (λ n. (n.0, n.1.value)) names
 
 -- the value of a name, or none
 abbrev pub value_of : List ℕ → StoredNames → Value

@@ -9,3 +9,4 @@ mod walking;
 
 pub use cache::TxnCache;
 pub use laws::txn_folds_stay;
+pub use stored::Names;

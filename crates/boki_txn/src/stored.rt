@@ -1,9 +1,9 @@
 //! Store names, each with its value and the commit that wrote it last.
-ghost use Rattle.std.specs.Prelude.{◌≡◌, [], length, map, OnOk, IfOk};
+ghost use Rattle.std.specs.Prelude.{◌≡◌, ◌++◌, ◌∷◌, [], length, map, OnOk, IfOk};
 ghost use Rattle.std.specs.List.{list_any};
 ghost use Rattle.boki_model.specs.Maps.{put};
 ghost use Rattle.boki_model.specs.Folds.{written_names};
-ghost use Rattle.boki_txn.specs.Names.{stored_name, put_writes, value_of, is_dirty as dirty, may_commit as good};
+ghost use Rattle.boki_txn.specs.Names.{stored_name, put_writes, with_values, value_of, is_dirty as dirty, may_commit as good};
 
 use lb_base::{List, Memory, Value, Words};
 use std::alloc::Global;
@@ -17,9 +17,9 @@ pub(crate) struct StoredName {
     pub(crate) commit: u64,
 }
 
-/// The store names behind a record.
+/// The store names behind a record, each with its value and the seqnum of the commit that wrote it last.
 #[derive(Drop)]
-pub(crate) struct Names {
+pub struct Names {
     map: BTreeMap<Words, StoredName>,
 }
 
@@ -32,9 +32,18 @@ impl Model for Names {
     ghost view = { λ n. n.map.entries };
 }
 
+// Adds a name with its value.
+fn push_value(all: &mut List<(Words, Value)>, name: &Words, value: &Value) -> Result<(), Memory>
+    ensures { OnOk result (all.new ≡ all.old ++ (name.now, value.now) ∷ []) }
+{
+    let name = name.clone()?;
+    let value = value.clone()?;
+    all.push((name, value))
+}
+
 impl Names {
     /// No name.
-    pub(crate) fn new(alloc: Global) -> Names
+    pub fn new(alloc: Global) -> Names
         ensures { result ≡ [] }
     {
         Names {
@@ -92,17 +101,24 @@ impl Names {
     }
 
     /// Puts in what a commit writes.
-    pub(crate) fn put_writes(
-        &mut self,
-        writes: &[(Words, Value)],
-        commit: u64,
-    ) -> Result<(), Memory>
+    pub fn put_writes(&mut self, writes: &[(Words, Value)], commit: u64) -> Result<(), Memory>
         ensures { OnOk result (self.new ≡ put_writes commit writes.now self.old) }
     {
         'writes: for write in writes {
             self.put(&write.0, &write.1, commit)?;
         }
         Ok(())
+    }
+
+    /// The names with their values, in the order of their bytes; or `Memory`.
+    pub fn all(&self, alloc: Global) -> Result<List<(Words, Value)>, Memory>
+        ensures { IfOk result (λ all. all ≡ with_values self.now) }
+    {
+        let mut all = List::new(alloc);
+        for (name, stored) in self.map.iter() {
+            push_value(&mut all, name, &stored.value)?;
+        }
+        Ok(all)
     }
 
     // Whether a commit behind the begin wrote a name.
@@ -140,7 +156,7 @@ impl Names {
     }
 
     /// Whether a commit succeeds: no commit behind its begin wrote a name that it read or writes.
-    pub(crate) fn may_commit(&self, begin: u64, read: &[Words], writes: &[(Words, Value)]) -> bool
+    pub fn may_commit(&self, begin: u64, read: &[Words], writes: &[(Words, Value)]) -> bool
         ensures { result ≡ good begin read.now writes.now self.now }
     {
         !self.any_is_dirty(begin, read) && !self.any_write_is_dirty(begin, writes)

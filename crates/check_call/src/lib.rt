@@ -1,4 +1,4 @@
-//! The top call of the command `check`, and the half of `make` that writes a plan.
+//! The top call of the command `check`, and the plan of the generator as a text.
 #![tactic(auto)]
 
 mod check;
@@ -8,4 +8,4 @@ mod words;
 
 pub use call_base::Status;
 pub use check::{check_source, check_top};
-pub use make::{make_top, write_transfers};
+pub use make::write_transfers;

@@ -1,13 +1,11 @@
 -- Auxiliary data.
-use Rattle.std.proofs.Common.{◌≡◌, ◌∙◌, ℕ, ◌-◌, ◌≤◌, ◌&&◌, Bool, true, false, cond, leb, List, [], Option, Some, None, length, refl, sym, ap, ap₂, subst}
+use Rattle.std.proofs.Common.{◌≡◌, ◌∙◌, ℕ, ◌-◌, ◌&&◌, Bool, true, false, cond, leb, List, [], Option, Some, None, refl, sym, ap, subst}
 use Rattle.std.specs.Prelude.{slice_index, slice_index_or, slice_set}
 use Rattle.std.specs.Option.{option_map_or}
 use Rattle.std.specs.Str.{IsUtf8}
 use Rattle.std.proofs.Math.Nat.{le_refl}
 use Rattle.lb_base.specs.declared.value.Seqnum.{Seqnum}
-use Rattle.boki_types.specs.declared.event.Event.{Event}
 use Rattle.boki_types.specs.declared.event.Event.TheVariants as event
-use Rattle.boki_types.specs.declared.line.Line.{Line}
 use Rattle.boki_types.specs.declared.line.Line.TheVariants as line
 use Rattle.boki_types.specs.declared.plan.Setup.{Setup}
 use Rattle.boki_types.specs.declared.program.Function.{Function}
@@ -15,13 +13,10 @@ use Rattle.boki_model.specs.Plans.{is_event}
 use Rattle.boki_machine.specs.Machine as machine
 use Rattle.boki_machine.specs.Machine.{Machine, Aux, aux_at, move_to_front, event_result, apply_event}
 use Rattle.machine_laws.proofs.Texts.{engines_see_texts}
-use Rattle.book_api.specs.Books as book
-use Rattle.book_api.specs.Books.{BookState, position, aux_of, with_aux, is_covered, after_set, after_get}
-use Rattle.step_laws.specs.Kept.{IsTextEvent}
+use Rattle.book_api.specs.Books.{position, aux_of, with_aux, is_covered, after_set, after_get}
 use Rattle.flow_parts.specs.declared.parts.Parts.{Parts}
-use Rattle.flow_parts.proofs.Grown.{GrowsTo}
 use Rattle.cluster_events.specs.Lines.{line_of_set, line_of_aux, HasUtf8}
-use Rattle.cluster_events.specs.Machines.{IsBookOf, PartsAreOf, IsEventDone}
+use Rattle.cluster_events.specs.Machines.{PartsAreOf, IsEventDone}
 use Rattle.cluster_events.proofs.Done.{IsBookMoved, positions_within, book_done, not_moved}
 
 module _ (setup : Setup) (fs : List Function) (m : Machine) (old : Parts) (are : PartsAreOf setup fs m old) (engine : ℕ) where

@@ -1,5 +1,5 @@
 -- To catch every engine up is to catch up the last one, the one before, and so on.
-use Rattle.std.proofs.Common.{◌≡◌, ◌∙◌, ℕ, zero, suc, ◌-◌, ◌≤◌, ◌&&◌, true, leb, List, [], ◌∷◌, length, map, refl, sym, ap, ap₂, subst, le-leb, arith}
+use Rattle.std.proofs.Common.{◌≡◌, ◌∙◌, ℕ, zero, suc, ◌-◌, ◌≤◌, ◌&&◌, List, [], ◌∷◌, length, map, refl, sym, ap, ap₂, subst, le-leb, arith}
 use Rattle.std.specs.Prelude.{slice_set}
 use Rattle.std.specs.List.{AllByRecursion}
 use Rattle.std.proofs.Math.Nat.{le_refl}
@@ -7,11 +7,10 @@ use Rattle.boki_types.specs.declared.event.Event.{Event}
 use Rattle.boki_types.specs.declared.event.Event.TheVariants as event
 use Rattle.boki_types.specs.declared.plan.Setup.{Setup}
 use Rattle.boki_types.specs.declared.program.Function.{Function}
-use Rattle.boki_model.specs.Plans.{is_event}
 use Rattle.boki_machine.specs.Machine.{Machine, log, catch_up, catch_up_all, apply_events}
 use Rattle.step_laws.specs.Kept.{MachineIsKept, IsTextEvent}
 use Rattle.step_laws.proofs.Kept.{events_keep_machine}
-use Rattle.book_api.specs.Books.{BookState, ordered, all_caught_up, AreCaughtUp}
+use Rattle.book_api.specs.Books.{BookState, all_caught_up, AreCaughtUp}
 use Rattle.flow_parts.specs.declared.parts.Parts.{Parts}
 use Rattle.cluster_events.specs.Machines.{PartsAreOf, CatchesAll}
 use Rattle.cluster_events.proofs.Done.{moved_are, not_moved, store_stands}

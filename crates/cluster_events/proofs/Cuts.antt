@@ -1,37 +1,25 @@
 -- A cut.
-use Rattle.std.proofs.Common.{◌≡◌, ◌∙◌, ℕ, zero, suc, ◌+◌, ◌-◌, ◌≤◌, ◌&&◌, min, Bool, true, false, cond, leb, List, [], ◌∷◌, ◌++◌, length, map, refl, sym, ap, ap₂, subst, le_trans, length-append, length-set, arith}
-use Rattle.std.specs.Prelude.{slice_index, slice_index_or, slice_set}
-use Rattle.std.specs.List.{AllByRecursion}
+use Rattle.std.proofs.Common.{◌≡◌, ◌∙◌, ℕ, suc, Bool, true, false, cond, List, ◌∷◌, length, refl, sym, ap, ap₂, subst}
 use Rattle.std.proofs.Math.Nat.{le_refl}
-use Rattle.std.proofs.lemmas.List.{length-map}
-use Rattle.std.proofs.lemmas.Bool.{and_parts, leb-true}
 use Rattle.boki_types.specs.declared.body.Body.{Body}
-use Rattle.boki_types.specs.declared.event.Event.{Event}
 use Rattle.boki_types.specs.declared.event.Event.TheVariants as event
-use Rattle.boki_types.specs.declared.line.Line.{Line}
 use Rattle.boki_types.specs.declared.line.Line.TheVariants as line
-use Rattle.boki_types.specs.declared.log.Cut.{Cut}
 use Rattle.boki_types.specs.declared.log.Cut.TheVariants as c
 use Rattle.boki_types.specs.declared.plan.Setup.{Setup}
 use Rattle.boki_types.specs.declared.program.Function.{Function}
 use Rattle.boki_model.specs.Order.{order, progress, last_vector, entry_records}
 use Rattle.boki_model.specs.Entries.{same_counts}
-use Rattle.boki_model.specs.Plans.{is_event}
 use Rattle.boki_model.specs.Live.{LogRecord}
-use Rattle.boki_model.specs.Writes.{Store}
 use Rattle.boki_machine.specs.Machine as machine
 use Rattle.boki_machine.specs.Machine.{Machine, NumberedAttempt, log, cut_line, catch_up_all, apply_event}
-use Rattle.exactly_once.proofs.Machines.EnginesStay.{seen_set, seen_all}
 use Rattle.book_api.specs.Books as book
 use Rattle.book_api.specs.Books.{BookState, ordered, position, after_copy, after_cut, cut_of, caught_up, all_caught_up}
 use Rattle.step_log.specs.Sound.{bodies}
-use Rattle.step_laws.specs.Kept.{IsTextEvent}
 use Rattle.flow_parts.specs.declared.parts.Parts.{Parts}
-use Rattle.flow_parts.proofs.Grown.{log_bodies, GrowsTo}
-use Rattle.cluster_events.specs.Machines.{IsBookOf, HasReplicas, PartsAreOf, IsEventDone}
+use Rattle.cluster_events.specs.Machines.{IsBookOf, PartsAreOf, IsEventDone}
 use Rattle.cluster_events.specs.Lines.{line_of_cut}
-use Rattle.cluster_events.proofs.Machines.{machine_of, on_machine, is_book, length_is, records_are, progress_is}
-use Rattle.cluster_events.proofs.Done.{IsBookMoved, positions_within, book_done, not_moved}
+use Rattle.cluster_events.proofs.Machines.{length_is, progress_is}
+use Rattle.cluster_events.proofs.Done.{IsBookMoved, book_done, not_moved}
 
 module _ (setup : Setup) (m : Machine) (b : BookState) (is : IsBookOf m b) (here : IsBookMoved setup m m b b) where
   -- the vectors of the machine and of the book, which are the same

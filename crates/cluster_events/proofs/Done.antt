@@ -9,9 +9,9 @@ use Rattle.boki_types.specs.declared.plan.Setup.{Setup}
 use Rattle.boki_types.specs.declared.program.Function.{Function}
 use Rattle.boki_model.specs.Order.{order, last_vector}
 use Rattle.boki_model.specs.OrderLaws.{ShardsHave, CountsGrow}
-use Rattle.boki_model.specs.Live.{LogRecord, Live, live}
+use Rattle.boki_model.specs.Live.{LogRecord, live}
 use Rattle.boki_model.specs.Writes.{Store}
-use Rattle.boki_machine.specs.Machine.{Machine, NumberedAttempt, log, live_records, apply_event}
+use Rattle.boki_machine.specs.Machine.{Machine, log, live_records, apply_event}
 use Rattle.exactly_once.specs.Induction.EventKeeps.{MachineHolds}
 use Rattle.script_ranges.specs.Ranged.{NumbersHaveRoom}
 use Rattle.store_laws.proofs.Grown.{events_leave_stores}
@@ -27,7 +27,7 @@ use Rattle.hm_read.specs.Kept.{IsKept}
 use Rattle.hm_read.proofs.Kept.{holding_is_kept}
 use Rattle.hm_write.specs.Sends.{HasOrdered}
 use Rattle.flow_parts.specs.declared.parts.Parts.{Parts}
-use Rattle.flow_parts.specs.Parts.{HasSizes, AreFolds, PartsStandFor}
+use Rattle.flow_parts.specs.Parts.{HasSizes, AreFolds}
 use Rattle.flow_parts.proofs.Grown.{log_bodies, GrowsTo, folds_grow}
 use Rattle.cluster_events.specs.Machines.{IsBookOf, HasReplicas, PartsAreOf, IsEventDone}
 use Rattle.cluster_events.proofs.Machines.{index_within}

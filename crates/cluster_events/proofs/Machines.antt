@@ -1,29 +1,22 @@
 -- The machine whose book this is: its log, its views and its places are the book's.
-use Rattle.std.proofs.Common.{◌≡◌, ◌∙◌, ℕ, zero, suc, ◌-◌, ◌%◌, ◌≤◌, ◌<◌, List, [], ◌∷◌, length, map, refl, sym, ap, subst, le_trans, arith}
+use Rattle.std.proofs.Common.{◌≡◌, ◌∙◌, ℕ, zero, suc, ◌-◌, ◌%◌, ◌≤◌, List, [], ◌∷◌, length, refl, sym, ap, subst, arith}
 use Rattle.std.specs.Prelude.{slice_index, slice_index_or}
 use Rattle.std.specs.List.{AllByRecursion}
-use Rattle.lb_base.specs.declared.value.Record.{Record}
-use Rattle.boki_types.specs.declared.body.Body.{Body}
 use Rattle.boki_types.specs.declared.event.Event.{Event}
 use Rattle.boki_types.specs.declared.line.Line.{Line}
-use Rattle.boki_types.specs.declared.log.Sent.{Sent}
 use Rattle.boki_types.specs.declared.plan.Setup.{Setup}
 use Rattle.boki_types.specs.declared.program.Function.{Function}
 use Rattle.boki_model.specs.Order.{order, progress}
-use Rattle.boki_model.specs.Live.{Live}
 use Rattle.boki_model.specs.Writes.{Store}
-use Rattle.boki_machine.specs.Machine as machine
-use Rattle.boki_machine.specs.Machine.{Machine, NumberedAttempt, log, live_records, shard_records, next_sent}
+use Rattle.boki_machine.specs.Machine.{Machine, NumberedAttempt, next_sent}
 use Rattle.log_folds.specs.Decoded.{decoded_record}
 use Rattle.log_folds.proofs.Maps.{length-mapped}
 use Rattle.log_folds.proofs.MappedOrders.{ordered_alike}
 use Rattle.log_folds.proofs.Said.{is_said}
 use Rattle.book_api.specs.Books as book
 use Rattle.book_api.specs.Books.{BookState, HasEngine, ordered}
-use Rattle.step_log.specs.Sound.{body_of, bodies, live_bodies, view}
-use Rattle.step_laws.specs.Kept.{MachineIsKept}
+use Rattle.step_log.specs.Sound.{body_of, bodies}
 use Rattle.flow_parts.specs.declared.parts.Parts.{Parts}
-use Rattle.flow_parts.specs.Parts.{HasSizes}
 use Rattle.cluster_events.specs.Machines.{IsBookOf, PartsAreOf, IsEventDone}
 
 -- the machine of a book, with this store and these attempts

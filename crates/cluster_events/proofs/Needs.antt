@@ -1,5 +1,5 @@
 -- What an event of an engine needs: that the engine has its view of switches.
-use Rattle.std.proofs.Common.{◌≡◌, ℕ, suc, ◌-◌, ◌≤◌, ◌<◌, true, leb, List, length, subst, arith}
+use Rattle.std.proofs.Common.{◌≡◌, ℕ, ◌-◌, ◌≤◌, ◌<◌, true, leb, List, length, subst, arith}
 use Rattle.std.proofs.lemmas.Bool.{and_parts, leb-true}
 use Rattle.boki_model.specs.Plans.{is_from_one_to}
 use Rattle.boki_types.specs.declared.plan.Setup.{Setup}

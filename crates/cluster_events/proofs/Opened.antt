@@ -1,36 +1,29 @@
 -- A new book, a new store and new caches are those of the initial machine.
-use Rattle.std.proofs.Common.{◌≡◌, ◌∙◌, ℕ, zero, suc, ◌+◌, ◌-◌, ◌≤◌, ◌<◌, ◌&&◌, ◌||◌, ◌++◌, length-append, not, Bool, true, false, cond, List, [], ◌∷◌, length, map, replicate, Option, Some, None, All, refl, sym, ap, ap₂, subst, arith}
+use Rattle.std.proofs.Common.{◌≡◌, ◌∙◌, ℕ, zero, suc, ◌+◌, ◌-◌, ◌<◌, ◌&&◌, ◌||◌, ◌++◌, length-append, not, Bool, true, false, cond, List, [], ◌∷◌, length, map, replicate, Some, None, All, refl, sym, ap, subst}
 use Rattle.std.specs.Prelude.{slice_index_or, bytes_eq, nat_le}
 use Rattle.std.specs.List.{AllByRecursion, list_all}
 use Rattle.std.specs.Map.{lookup}
 use Rattle.std.proofs.lemmas.Bool.{and_parts}
 use Rattle.std.proofs.lemmas.List.Elements.{All-push}
-use Rattle.lb_base.specs.declared.value.Mode.{Mode}
-use Rattle.lb_base.specs.declared.value.Record.{Record}
 use Rattle.lb_base.specs.declared.value.Value.{Value}
 use Rattle.boki_types.specs.declared.body.Body.{Body}
 use Rattle.boki_types.specs.declared.plan.Plan.{Plan}
-use Rattle.boki_types.specs.declared.plan.Setup.{Setup}
-use Rattle.boki_types.specs.declared.program.Function.{Function}
 use Rattle.boki_model.specs.Live.{LogRecord, Live}
 use Rattle.boki_model.specs.LogLaws.{FallBelow}
 use Rattle.boki_model.specs.Maps.{has}
 use Rattle.boki_model.specs.Plans.{is_plan, is_setup, are_objects, is_program, is_item, total_events, distinct}
 use Rattle.boki_model.specs.Bodies.{is_name, is_value}
 use Rattle.boki_model.specs.declared.limits.TheConstants.{MAX_EVENTS}
-use Rattle.boki_model.specs.Writes.{Store, initial_store}
-use Rattle.boki_machine.specs.Machine.{Machine, initial_machine}
+use Rattle.boki_model.specs.Writes.{initial_store}
+use Rattle.boki_machine.specs.Machine.{initial_machine}
 use Rattle.log_folds.specs.Decoded.{decoded_record}
-use Rattle.obj_store.specs.Kept.{StoreState}
 use Rattle.obj_store.specs.StandsFor.{StandsFor, KeysDiffer}
 use Rattle.script_ranges.specs.Asks.{AreFunctions}
 use Rattle.book_api.specs.Books.{BookState, new_book}
 use Rattle.step_log.specs.Sound.{body_of, live_bodies, IsSpelled, Sound}
 use Rattle.step_laws.proofs.Kept.{initial_machine_is_kept}
-use Rattle.fold_cache.specs.Kept.{KeptState}
-use Rattle.boki_queue.specs.QueueStates.{QueueState, AreQueueFolds}
+use Rattle.boki_queue.specs.QueueStates.{AreQueueFolds}
 use Rattle.boki_txn.specs.TxnStates.{AreTxnFolds}
-use Rattle.boki_txn.specs.Names.{StoredNames}
 use Rattle.hm_switch.specs.SwitchStates.{SwitchState, IsNew}
 use Rattle.hm_switch.proofs.Going.{new_follows}
 use Rattle.flow_parts.specs.declared.parts.Parts.{Parts}

@@ -7,17 +7,13 @@ use Rattle.lb_base.specs.declared.value.Record.{Record}
 use Rattle.lb_base.specs.declared.value.Seqnum.{Seqnum}
 use Rattle.lb_base.specs.declared.value.Tag.{Tag}
 use Rattle.boki_types.specs.declared.body.Body.{Body}
-use Rattle.boki_types.specs.declared.event.Event.{Event}
 use Rattle.boki_types.specs.declared.event.Event.TheVariants as event
-use Rattle.boki_types.specs.declared.line.Line.{Line}
 use Rattle.boki_types.specs.declared.line.Line.TheVariants as line
-use Rattle.boki_types.specs.declared.log.Sent.{Sent}
-use Rattle.boki_types.specs.declared.log.Settle.{Settle}
 use Rattle.boki_types.specs.declared.log.Settle.TheVariants.{Placed, Taken}
 use Rattle.boki_types.specs.declared.plan.Setup.{Setup}
 use Rattle.boki_types.specs.declared.program.Function.{Function}
 use Rattle.boki_model.specs.Bodies.{trim_of}
-use Rattle.boki_model.specs.Live.{LogRecord, Live, live, upto, is_live}
+use Rattle.boki_model.specs.Live.{LogRecord, Live, upto, is_live}
 use Rattle.boki_model.specs.Order.{order, at_seq, seq_of}
 use Rattle.boki_model.specs.Reads.{read_next, read_prev}
 use Rattle.boki_model.specs.Plans.{is_event}
@@ -25,7 +21,6 @@ use Rattle.boki_machine.specs.Machine as machine
 use Rattle.boki_machine.specs.Machine.{Machine, user_text, user_text_at, found_line, settle_line, apply_event}
 use Rattle.boki_machine.specs.Step.{seqnum}
 use Rattle.machine_laws.proofs.Texts.{engines_see_texts}
-use Rattle.log_folds.specs.Bounds.{record_at}
 use Rattle.log_folds.specs.Decoded.{decoded_record}
 use Rattle.log_folds.specs.Recorded.{live_at, logged_at}
 use Rattle.log_folds.proofs.MappedOrders.{ordered_alike}
@@ -33,11 +28,10 @@ use Rattle.log_folds.proofs.Recorded.{of_log, texts_recorded}
 use Rattle.log_folds.proofs.Said.{is_said, is_seen_said}
 use Rattle.rec_codec.specs.Reading.{read}
 use Rattle.book_api.specs.Books.{BookState, ordered, position, seen, settle_of, settled, trim_of_read, trim_of_bytes}
-use Rattle.step_log.specs.Sound.{body_or_end, body_of, bodies, live_bodies, view}
-use Rattle.step_laws.specs.Kept.{IsTextEvent}
+use Rattle.step_log.specs.Sound.{body_or_end, body_of, bodies, view}
 use Rattle.flow_parts.specs.declared.parts.Parts.{Parts}
 use Rattle.cluster_events.specs.Lines.{text_in, line_found, line_of_settle, HasText}
-use Rattle.cluster_events.specs.Machines.{IsBookOf, PartsAreOf, IsEventDone}
+use Rattle.cluster_events.specs.Machines.{PartsAreOf, IsEventDone}
 use Rattle.cluster_events.proofs.LiveFound.{next_seen, prev_seen}
 use Rattle.cluster_events.proofs.Done.{same_done, live_is}
 

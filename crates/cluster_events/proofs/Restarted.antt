@@ -1,6 +1,6 @@
 -- The parts of an engine that was restarted.
-use Rattle.std.proofs.Common.{◌≡◌, ◌∙◌, ℕ, zero, suc, ◌-◌, ◌≤◌, ◌<◌, Bool, true, false, eqb, List, [], ◌∷◌, length, refl, sym, ap, ap₂, subst, length-set, arith}
-use Rattle.std.specs.Prelude.{slice_index, slice_index_or, slice_set}
+use Rattle.std.proofs.Common.{◌≡◌, ◌∙◌, ℕ, zero, suc, ◌-◌, ◌≤◌, ◌<◌, Bool, true, false, eqb, List, [], ◌∷◌, length, refl, sym, ap, subst, length-set, arith}
+use Rattle.std.specs.Prelude.{slice_index_or, slice_set}
 use Rattle.std.specs.List.{AllByRecursion}
 use Rattle.std.proofs.lemmas.List.{get_or-set_same, get_or-set_other}
 use Rattle.std.proofs.lemmas.Bool.{eqb-true, eqb-false}
@@ -10,14 +10,12 @@ use Rattle.boki_types.specs.declared.program.Function.{Function}
 use Rattle.boki_model.specs.Plans.{is_event}
 use Rattle.boki_machine.specs.Machine.{Machine, Aux, live_records, restart_engine}
 use Rattle.exactly_once.proofs.Machines.EnginesStay.{seen_other}
-use Rattle.book_api.specs.Books.{BookState, position, restarted}
+use Rattle.book_api.specs.Books.{BookState, restarted}
 use Rattle.step_log.specs.Sound.{live_bodies, Sound}
-use Rattle.fold_cache.specs.Kept.{KeptState}
 use Rattle.obj_store.specs.Kept.{StoreState}
 use Rattle.obj_store.specs.StandsFor.{StandsFor}
-use Rattle.boki_queue.specs.QueueStates.{QueueState, AreQueueFolds}
+use Rattle.boki_queue.specs.QueueStates.{AreQueueFolds}
 use Rattle.boki_txn.specs.TxnStates.{AreTxnFolds}
-use Rattle.boki_txn.specs.Names.{StoredNames}
 use Rattle.hm_switch.specs.SwitchStates.{SwitchState, IsNew}
 use Rattle.hm_switch.proofs.Going.{new_follows}
 use Rattle.flow_parts.specs.declared.parts.Parts.{Parts}

@@ -1,5 +1,5 @@
 -- The events by what the calls of the book say.
-use Rattle.std.proofs.Common.{◌≡◌, ◌∙◌, ℕ, Bool, true, List, Option, length, option_map, refl, sym, ap, subst}
+use Rattle.std.proofs.Common.{◌≡◌, ◌∙◌, ℕ, Bool, true, List, Option, length, option_map, sym, ap, subst}
 use Rattle.std.specs.Str.{IsUtf8}
 use Rattle.lb_base.specs.declared.value.Seqnum.{Seqnum}
 use Rattle.lb_base.specs.declared.value.Tag.{Tag}

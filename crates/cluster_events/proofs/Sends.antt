@@ -31,14 +31,12 @@ use Rattle.boki_machine.specs.Machine as machine
 use Rattle.boki_machine.specs.Machine.{Machine, EventResult, first_tag, apply_event}
 use Rattle.boki_machine.specs.Step.{function_name}
 use Rattle.script_ranges.specs.Ranged.{NumbersHaveRoom, are_bytes}
-use Rattle.book_api.specs.Books as book
 use Rattle.book_api.specs.Books.{BookState, home_shard, next_sent, appended, position}
 use Rattle.step_log.specs.Sound.{bodies, Sound, record_of, entry_with, user_record, user_entry, IsBodySent, IsUserSent}
 use Rattle.step_laws.specs.Kept.{IsTextEvent}
 use Rattle.flow_parts.specs.declared.parts.Parts.{Parts}
-use Rattle.flow_parts.proofs.Grown.{GrowsTo}
 use Rattle.flow_parts.proofs.Appended.{log_same}
-use Rattle.cluster_events.specs.Machines.{IsBookOf, PartsAreOf, IsEventDone}
+use Rattle.cluster_events.specs.Machines.{PartsAreOf, IsEventDone}
 use Rattle.cluster_events.proofs.Machines.{records_are}
 use Rattle.cluster_events.proofs.Done.{IsBookMoved, positions_within, book_done}
 

@@ -1,5 +1,5 @@
 -- A client's call.
-use Rattle.std.proofs.Common.{◌≡◌, ◌∙◌, ℕ, zero, suc, ◌-◌, ◌%◌, ◌≤◌, ◌<◌, ◌&&◌, Bool, true, false, cond, List, [], ◌∷◌, ◌++◌, length, Option, Some, None, refl, sym, ap, subst, mod-lt, arith}
+use Rattle.std.proofs.Common.{◌≡◌, ◌∙◌, ℕ, suc, ◌-◌, ◌%◌, ◌<◌, ◌&&◌, Bool, true, cond, List, [], ◌∷◌, ◌++◌, length, Option, Some, None, refl, sym, ap, subst, mod-lt, arith}
 use Rattle.std.specs.Prelude.{slice_index_or, slice_set}
 use Rattle.std.specs.List.{AllByRecursion, list_all}
 use Rattle.std.proofs.lemmas.Bool.{and_parts}
@@ -17,10 +17,10 @@ use Rattle.boki_types.specs.Finding.{function_at}
 use Rattle.boki_model.specs.Bodies.{in_range, is_value, tag_of, path_number}
 use Rattle.boki_model.specs.Live.{LogRecord}
 use Rattle.boki_model.specs.Plans.{is_event, is_from_one_to, has_arity}
-use Rattle.boki_machine.specs.Machine.{Machine, initial_machine, submit_record, apply_event}
+use Rattle.boki_machine.specs.Machine.{Machine, initial_machine, submit_record}
 use Rattle.boki_machine.specs.Step.{function_name}
 use Rattle.exactly_once.specs.FurtherLaws.Words.{all_records}
-use Rattle.script_ranges.specs.Ranged.{IsRanged, BodyInRange}
+use Rattle.script_ranges.specs.Ranged.{BodyInRange}
 use Rattle.script_ranges.proofs.Events.{events_keep_ranges, opening_is_ranged}
 use Rattle.book_api.specs.Books.{BookState}
 use Rattle.step_log.specs.Sound.{Sound, IsBodySent}

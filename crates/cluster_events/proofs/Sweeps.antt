@@ -1,45 +1,47 @@
 -- A sweep of the object store.
-use Rattle.std.proofs.Common.{◌≡◌, ◌∙◌, ℕ, suc, ◌-◌, ◌≤◌, ◌<◌, ◌&&◌, Bool, true, false, cond, eqb, leb, ltb, max, List, [], ◌∷◌, ◌++◌, length, Option, Some, None, refl, sym, ap, ap₂, subst, append-nil, arith}
+use Rattle.std.proofs.Common.{◌≡◌, ◌∙◌, ◌⊎◌, inl, inr, ℕ, suc, ◌≤◌, ◌<◌, ◌&&◌, Bool, true, false, cond, eqb, leb, ltb, List, [], ◌∷◌, ◌++◌, Option, Some, None, option_map, refl, sym, ap, ap₂, subst, append-nil, arith}
 use Rattle.std.specs.Option.{option_map_or}
-use Rattle.std.specs.Prelude.{nat_le, nat_lt}
 use Rattle.std.proofs.Math.Nat.{le_refl}
 use Rattle.std.proofs.lemmas.Bool.{eqb-true, eqb-false, ne_eqb, leb-true, leb-false, le-leb, lt-ltb, le-ltb, ltb-true, ltb-false}
-use Rattle.lb_base.specs.declared.value.Seqnum.{Seqnum}
+use Rattle.lb_base.specs.declared.value.Record.{Record}
 use Rattle.lb_base.specs.declared.value.Value.{Value}
 use Rattle.boki_types.specs.declared.body.Body.{Body}
 use Rattle.boki_types.specs.declared.body.Body.TheVariants as b
-use Rattle.boki_types.specs.declared.event.Event.{Event}
 use Rattle.boki_types.specs.declared.event.Event.TheVariants as event
-use Rattle.boki_types.specs.declared.line.Line.{Line}
 use Rattle.boki_types.specs.declared.line.Line.TheVariants as line
 use Rattle.boki_types.specs.declared.plan.Setup.{Setup}
 use Rattle.boki_types.specs.declared.program.Function.{Function}
 use Rattle.boki_types.specs.declared.store.Name.{Name}
 use Rattle.boki_types.specs.declared.store.Settled.{Settled}
 use Rattle.boki_model.specs.Floor.{floor, counted_trim}
-use Rattle.boki_model.specs.Live.{Live, live, upto}
+use Rattle.boki_model.specs.Live.{LogRecord, Live, upto, is_live}
+use Rattle.boki_model.specs.Order.{order, at_seq}
 use Rattle.boki_model.specs.LogLaws.{FallBelow}
 use Rattle.boki_model.specs.Plans.{is_event}
 use Rattle.boki_model.specs.Writes.{Store, logged_write, after_sweep, held_count}
 use Rattle.boki_model.proofs.Logs.{fall_more}
-use Rattle.boki_machine.specs.Machine as machine
 use Rattle.boki_machine.specs.Machine.{Machine, EventResult, event_result, live_records, apply_event}
 use Rattle.boki_machine.specs.Step.{seqnum}
 use Rattle.log_folds.specs.Bounds.{record_at}
+use Rattle.log_folds.specs.Decoded.{decoded_record}
+use Rattle.log_folds.specs.Recorded.{live_at}
+use Rattle.log_folds.proofs.Recorded.{of_log}
+use Rattle.log_folds.proofs.Said.{is_said}
 use Rattle.obj_store.specs.Kept.{StoreState}
 use Rattle.obj_store.specs.StandsFor.{StandsFor}
 use Rattle.obj_store.specs.Sweeps.{settled_of, logged_between, AllHaveValues}
 use Rattle.store_laws.proofs.Told.{swept_have_values}
-use Rattle.book_api.specs.Books.{BookState, position}
-use Rattle.step_log.specs.Sound.{view, live_bodies}
+use Rattle.book_api.specs.Books.{BookState, ordered, position, seen}
+use Rattle.step_log.specs.Sound.{body_of, bodies, view, live_bodies}
 use Rattle.flow_parts.specs.declared.parts.Parts.{Parts}
 use Rattle.machine_laws.specs.Kept.{WritesHaveValues}
 use Rattle.step_laws.specs.Kept.{MachineIsKept, IsTextEvent}
+use Rattle.hm_switch.specs.SwitchStates.{SwitchState, IsFoldOf, IsCurrent}
 use Rattle.hm_switch.proofs.Going.{view_falls}
 use Rattle.cluster_events.specs.Machines.{PartsAreOf, IsEventDone}
 use Rattle.cluster_events.specs.Writes.{write_in}
 use Rattle.cluster_events.proofs.Done.{are_after, kept_after, live_is, store_stands}
-use Rattle.cluster_events.proofs.ReadLines.{view_same}
+use Rattle.cluster_events.proofs.ReadLines.{view_same, live_said}
 
 -- The floor is at most the seqnum of a record.
 
@@ -86,6 +88,19 @@ module _ (low : ℕ) where
       ap₂ (λ (s : List Settled) (t : Bool). s ++ settled_of (leb low x.seq && t) x.seq (logged_write x.holds))
       (between_same one other x.seq xs fall.2 (omega (arith, fall.1, le)) (omega (arith, fall.1, more)))
       (lt-ltb x.seq one (omega (arith, fall.1, le)) ∙ sym (lt-ltb x.seq other (omega (arith, fall.1, more))))
+
+  -- none where the second isn't above the first
+  pub between_empty : (high : ℕ) (xs : List (Live Body)) → high ≤ low → logged_between low high xs ≡ []
+  between_empty high [] le = refl
+  between_empty high (x ∷ xs) le =
+      ap (λ (s : List Settled). s ++ settled_of (leb low x.seq && ltb x.seq high) x.seq (logged_write x.holds)) (between_empty high xs le)
+      ∙ none (leb low x.seq) refl
+    where
+      none : (t : Bool) → leb low x.seq ≡ t → settled_of (t && ltb x.seq high) x.seq (logged_write x.holds) ≡ []
+      none true e =
+          let above : low ≤ x.seq = leb-true low x.seq e in
+          ap (λ (u : Bool). settled_of u x.seq (logged_write x.holds)) (le-ltb x.seq high (omega (arith, above, le)))
+      none false e = refl
 
   record_none : (n seq : ℕ) (xs : List (Live Body)) → FallBelow n xs → n ≤ seq → record_at seq xs ≡ None
   record_none n seq [] fall le = refl
@@ -140,6 +155,44 @@ module _ (low : ℕ) where
           ≡ (others ++ own (ltb x.seq seq)) ++ option_map_or (λ (y : Live Body). settled_of true seq (logged_write y.holds)) (cond t (Some x) (record_at seq xs)) []
       at ih true e = here (eqb-true seq x.seq e)
       at ih false e = other ih (eqb-false seq x.seq e) (ltb x.seq seq) refl
+
+  -- and at the end all of them
+  pub between_all : (seq high : ℕ) (xs : List (Live Body)) → (seq ≤ low) ⊎ (seq ≤ high) → high ≤ seq → logged_between low seq xs ≡ logged_between low high xs
+  between_all seq high xs (inl le) more = between_empty seq xs le ∙ sym (between_empty high xs (omega (arith, le, more)))
+  between_all seq high xs (inr le) more = let same : seq ≡ high = omega (arith, le, more) in ap (λ n. logged_between low n xs) same
+
+-- The write of the record at a seqnum, by the bytes.
+module _ (b : BookState) (engine seq : ℕ) where
+  record_is : record_at seq (view b engine) ≡ cond (is_live seq (seen b engine)) (option_map (live_at seq) (option_map (decoded_record body_of) (at_seq seq (ordered b)))) None
+  record_is =
+      (of_log (order (bodies b) b.vectors) (position b engine)).stands seq
+      ∙ ap₂ (λ (t : Bool) (o : Option (LogRecord Body)). cond t (option_map (live_at seq) o) None) (live_said b engine seq) ((is_said body_of b.shards b.vectors).stands seq)
+
+  pub write_dead : is_live seq (seen b engine) ≡ false → write_in (view b engine) seq ≡ []
+  write_dead dead =
+      ap (λ (o : Option (Live Body)). option_map_or (λ (x : Live Body). settled_of true seq (logged_write x.holds)) o []) record_is
+      ∙ ap (λ (t : Bool). option_map_or (λ (x : Live Body). settled_of true seq (logged_write x.holds)) (cond t (option_map (live_at seq) (option_map (decoded_record body_of) (at_seq seq (ordered b)))) None) []) dead
+
+  at_record : (o : Option Record) → option_map_or (λ (x : Live Body). settled_of true seq (logged_write x.holds)) (option_map (live_at seq) (option_map (decoded_record body_of) o)) []
+      ≡ option_map_or (λ (r : Record). settled_of true seq (logged_write (body_of r.bytes))) o []
+  at_record None = refl
+  at_record (Some r) = refl
+
+  pub write_live : is_live seq (seen b engine) ≡ true → write_in (view b engine) seq ≡ option_map_or (λ (r : Record). settled_of true seq (logged_write (body_of r.bytes))) (at_seq seq (ordered b)) []
+  write_live lives =
+      ap (λ (o : Option (Live Body)). option_map_or (λ (x : Live Body). settled_of true seq (logged_write x.holds)) o []) record_is
+      ∙ ap (λ (t : Bool). option_map_or (λ (x : Live Body). settled_of true seq (logged_write x.holds)) (cond t (option_map (live_at seq) (option_map (decoded_record body_of) (at_seq seq (ordered b)))) None) []) lives
+      ∙ at_record (at_seq seq (ordered b))
+
+  pub write_there : is_live seq (seen b engine) ≡ true → (r : Record) → at_seq seq (ordered b) ≡ Some r → write_in (view b engine) seq ≡ settled_of true seq (logged_write (body_of r.bytes))
+  write_there lives r is = write_live lives ∙ ap (λ (o : Option Record). option_map_or (λ (r : Record). settled_of true seq (logged_write (body_of r.bytes))) o []) is
+
+  pub write_absent : is_live seq (seen b engine) ≡ true → at_seq seq (ordered b) ≡ None → write_in (view b engine) seq ≡ []
+  write_absent lives is = write_live lives ∙ ap (λ (o : Option Record). option_map_or (λ (r : Record). settled_of true seq (logged_write (body_of r.bytes))) o []) is
+
+-- A view of switches that is current tells the floor.
+pub fold_there : (book : BookState) (engine : ℕ) (s t : SwitchState) → s ≡ t → IsCurrent book engine t → IsFoldOf (view book engine) s
+fold_there book engine s t is current = subst (IsFoldOf (view book engine)) (sym is) current.fold
 
 -- The event.
 
@@ -207,3 +260,16 @@ module _ (setup : Setup) (fs : List Function) (m : Machine) (old : Parts) (are :
       text = text;
       are = subst (λ (n : Machine). PartsAreOf setup fs n (record old { store = swept })) (sym (ap (λ (r : EventResult). r.machine) result_is)) swept_are;
     }
+
+  -- up to a seqnum that is the bound
+  pub swept_done :
+      (swept : StoreState) (settled : List Settled) (high low held : ℕ) → high ≡ bound → settled ≡ logged_between old.store.floor high (view old.book engine)
+      → ((n : Store) (records : List (Live Body)) → StandsFor old.store n records → settled ≡ logged_between n.floor high records → AllHaveValues old.store.named settled → StandsFor swept (after_sweep high n) records)
+      → low ≡ swept.floor → ((n : Store) (records : List (Live Body)) → StandsFor swept n records → held ≡ held_count n records)
+      → IsEventDone setup fs (event.Sweep engine) m (record old { store = swept }) (line.Floor (seqnum low) held)
+  swept_done swept settled high low held e told does =
+      sweep_done swept settled (told ∙ ap (λ n. logged_between old.store.floor n (view old.book engine)) e)
+      (subst
+      (λ (h : ℕ). (n : Store) (records : List (Live Body)) → StandsFor old.store n records → settled ≡ logged_between n.floor h records → AllHaveValues old.store.named settled → StandsFor swept (after_sweep h n) records)
+      e does)
+      low held

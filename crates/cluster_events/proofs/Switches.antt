@@ -1,11 +1,9 @@
 -- Events by what an engine's view of switches tells: the end of a switch, and a trim.
-use Rattle.std.proofs.Common.{◌≡◌, ◌∙◌, ℕ, suc, ◌-◌, ◌≤◌, ◌<◌, ◌^◌, true, List, [], length, Option, Some, None, refl, sym, ap, ap₂, subst, lt-ltb, arith}
-use Rattle.std.specs.Prelude.{slice_index_or}
+use Rattle.std.proofs.Common.{◌≡◌, ◌∙◌, ℕ, suc, ◌<◌, ◌^◌, true, List, length, Option, Some, None, refl, sym, ap, ap₂, subst, lt-ltb}
 use Rattle.lb_base.specs.declared.value.Mode.{Mode}
 use Rattle.lb_base.specs.declared.value.Seqnum.{Seqnum}
 use Rattle.boki_types.specs.declared.body.Body.{Body}
 use Rattle.boki_types.specs.declared.body.Body.TheVariants as body
-use Rattle.boki_types.specs.declared.event.Event.{Event}
 use Rattle.boki_types.specs.declared.event.Event.TheVariants as event
 use Rattle.boki_types.specs.declared.line.Line.{Line}
 use Rattle.boki_types.specs.declared.line.Line.TheVariants as line
@@ -17,16 +15,14 @@ use Rattle.boki_types.specs.declared.program.Function.{Function}
 use Rattle.boki_model.specs.Bodies.{is_u64}
 use Rattle.boki_model.specs.Floor.{trim_limit}
 use Rattle.boki_model.specs.Live.{Live}
-use Rattle.boki_model.specs.Modes.{Switch, modes, least_open}
+use Rattle.boki_model.specs.Modes.{Switch, modes}
 use Rattle.boki_model.specs.Plans.{is_event}
 use Rattle.boki_machine.specs.Machine as machine
 use Rattle.boki_machine.specs.Machine.{Machine, EventResult, event_result, unconditional_record, end_if_all_ended, send_switch_end, send_trim, apply_event}
-use Rattle.boki_machine.specs.Step.{seqnum}
 use Rattle.script_ranges.specs.Ranged.{NumbersHaveRoom}
 use Rattle.book_api.specs.Books.{BookState, ordered, position}
-use Rattle.step_log.specs.Sound.{view, Sound, IsBodySent}
+use Rattle.step_log.specs.Sound.{view, Sound}
 use Rattle.step_laws.specs.Kept.{IsTextEvent}
-use Rattle.hm_switch.specs.SwitchStates.{SwitchState}
 use Rattle.hm_switch.specs.Answers.{Pends, IsEnding, IsTrimSent}
 use Rattle.flow_parts.specs.declared.parts.Parts.{Parts}
 use Rattle.cluster_events.specs.Lines.{line_of_ending}

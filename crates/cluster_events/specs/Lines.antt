@@ -12,7 +12,6 @@ use Rattle.boki_types.specs.declared.log.Ending.{Ending}
 use Rattle.boki_types.specs.declared.log.Ending.TheVariants as e
 use Rattle.boki_types.specs.declared.log.Settle.{Settle}
 use Rattle.boki_types.specs.declared.log.Settle.TheVariants.{Placed, Taken}
-use Rattle.boki_types.specs.declared.log.Sent.{Sent}
 use Rattle.boki_model.specs.Order.{at_seq}
 use Rattle.boki_machine.specs.Machine.{user_text}
 use Rattle.book_api.specs.Books.{BookState, ordered}

@@ -10,9 +10,11 @@ mod ordering;
 mod reading;
 mod restarting;
 mod sending;
+mod sweeping;
 
 pub use opening::new_parts;
 pub use ordering::{catch, catch_all, copy, cut, sync};
 pub use reading::{aux, next, prev, set_aux, settled, tail};
 pub use restarting::restart;
 pub use sending::{append, cond, end_switch, submit, switch, trim, trim_tag};
+pub use sweeping::sweep;

@@ -5,7 +5,6 @@ ghost use Rattle.boki_model.specs.Plans.{is_plan};
 ghost use Rattle.make_call.specs.Summary.{integer_of, line_of, log_part, result_part, sum_of, summary_line, summary_of};
 
 use boki_types::{Plan, Report};
-use engine_gate::NoGate;
 use lb_base::{Memory, Value, Words};
 use run_call::PlanCluster;
 use run_loops::apply_plan;
@@ -86,7 +85,7 @@ pub(crate) fn run_summary<C: PlanCluster + Drop, R: Threads + Sync>(
     ensures { IfOk result (λ s. string_bytes s ≡ summary_of plan.now) }
 {
     let mut cluster = C::open(alloc, plan)?;
-    let count = apply_plan(rt, &mut cluster, plan, &NoGate)?;
+    let count = apply_plan(rt, &mut cluster, plan)?;
     let records = cluster.log_length();
     let report = cluster.report(plan)?;
     drop(cluster);

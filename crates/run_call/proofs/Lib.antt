@@ -1,2 +1,2 @@
-mod Ended
+pub mod Ended
 mod Written

@@ -12,7 +12,6 @@ ghost use Rattle.run_call.specs.Runs.{run_text, text_of_report};
 use crate::cluster::PlanCluster;
 use boki_types::{Plan, Program, Report};
 use call_base::{Status, write_text};
-use engine_gate::NoGate;
 use lb_base::{Memory, PutFault, Sink, Words};
 use nemesis::Kept;
 use plan_lang::print_report;
@@ -63,7 +62,7 @@ fn write_run<C: PlanCluster + Drop, R: Threads + Sync, K: Sink>(
     ensures later { K.faults sink.old ≤ K.faults sink.new }
 {
     let mut cluster = C::open(alloc, plan)?;
-    run_events(rt, &mut cluster, plan, kept, &NoGate, sink)?;
+    run_events(rt, &mut cluster, plan, kept, sink)?;
     let text = report_of(alloc, &cluster, plan, json)?;
     drop(cluster);
     write_text(sink, text.as_bytes())

@@ -10,7 +10,6 @@ ghost use Rattle.boki_machine.specs.Machine.{Machine, apply_event};
 ghost use Rattle.run_with.specs.Runs.{Output, Planned, Added, Ignored};
 
 use boki_types::{Event, Line, Plan};
-use engine_gate::Gate;
 use lb_base::{Memory, Words};
 use std::thread::Threads;
 
@@ -25,16 +24,14 @@ pub trait Cluster {
     /// The text of a line.
     ghost line_text: { List Function → Output → List ℕ };
 
-    /// Does an event that the plan can have, and tells its line. The gate is passed before each engine is caught up with the
-    /// others.
-    fn event<R: Threads + Sync, G: Gate + Sync>(
+    /// Does an event that the plan can have, and tells its line.
+    fn event<R: Threads + Sync>(
         &mut self,
         rt: &R,
         plan: &Plan,
         event: &Event,
-        gate: &G,
     ) -> Result<Line, Memory>
-        requires shared { IsSync R.row × IsSync G.row }
+        requires shared { IsSync R.row }
         requires valid { IsTrue (is_event plan.now.setup plan.now.program.functions event.now) }
         requires plan { is_of_plan self.old plan.now }
         ensures done { IfOk result (λ line. (m : Machine) → stands self.old plan.now.setup plan.now.program.functions m

@@ -12,20 +12,18 @@ use crate::cluster::Cluster;
 use crate::lines::{write_added, write_ignored, write_planned};
 use crate::observation::seen;
 use boki_types::{Event, Line, Plan};
-use engine_gate::Gate;
 use lb_base::{Memory, PutFault, Sink};
 use nemesis::{Kept, reseed_all};
 use nemesis_types::Seen;
 use std::thread::Threads;
 
 /// Does an event; a seed reseeds each nemesis.
-pub(crate) fn do_event<C: Cluster, R: Threads + Sync, G: Gate + Sync>(
+pub(crate) fn do_event<C: Cluster, R: Threads + Sync>(
     rt: &R,
     cluster: &mut C,
     plan: &Plan,
     event: &Event,
     kept: &mut Vec<Kept>,
-    gate: &G,
 ) -> Result<Line, Memory>
     requires valid { IsTrue (is_event plan.now.setup plan.now.program.functions event.now) }
     requires plan { C.is_of_plan cluster.old plan.now }
@@ -36,7 +34,7 @@ pub(crate) fn do_event<C: Cluster, R: Threads + Sync, G: Gate + Sync>(
     ensures many { OnOk result (vec_len kept.new ≡ vec_len kept.old) }
     ensures kept { OnOk result (map (λ b. numbered_nemesis b.0 (automaton b.1)) kept.new.items ≡ reseeded_by event.now (map (λ b. numbered_nemesis b.0 (automaton b.1)) kept.old.items)) }
 {
-    let line = cluster.event(rt, plan, event, gate)?;
+    let line = cluster.event(rt, plan, event)?;
     if let Event::Seed { n } = event {
         reseed_all(kept, *n);
     }
@@ -44,14 +42,13 @@ pub(crate) fn do_event<C: Cluster, R: Threads + Sync, G: Gate + Sync>(
 }
 
 /// Does an event of the plan and writes its line, and gives what nemeses are told of it.
-pub(crate) fn do_planned<C: Cluster, R: Threads + Sync, G: Gate + Sync, K: Sink>(
+pub(crate) fn do_planned<C: Cluster, R: Threads + Sync, K: Sink>(
     rt: &R,
     cluster: &mut C,
     plan: &Plan,
     n: u64,
     event: &Event,
     kept: &mut Vec<Kept>,
-    gate: &G,
     sink: &mut K,
 ) -> Result<Seen, PutFault>
     requires valid { IsTrue (is_event plan.now.setup plan.now.program.functions event.now) }
@@ -70,7 +67,7 @@ pub(crate) fn do_planned<C: Cluster, R: Threads + Sync, G: Gate + Sync, K: Sink>
     ensures fault { IsErrOf result PutFault.Fault → CountRose (K.faults sink.old) (K.faults sink.new) }
     ensures later { K.faults sink.old ≤ K.faults sink.new }
 {
-    let line = do_event(rt, cluster, plan, event, kept, gate)?;
+    let line = do_event(rt, cluster, plan, event, kept)?;
     let told = write_planned(cluster, plan, n, &line, sink);
     let seen = seen(n, event, &line);
     drop(line);
@@ -79,7 +76,7 @@ pub(crate) fn do_planned<C: Cluster, R: Threads + Sync, G: Gate + Sync, K: Sink>
 }
 
 /// Does an event that a nemesis gave and that the plan can have, and writes its line.
-fn do_valid<C: Cluster, R: Threads + Sync, G: Gate + Sync, K: Sink>(
+fn do_valid<C: Cluster, R: Threads + Sync, K: Sink>(
     rt: &R,
     cluster: &mut C,
     plan: &Plan,
@@ -87,7 +84,6 @@ fn do_valid<C: Cluster, R: Threads + Sync, G: Gate + Sync, K: Sink>(
     number: u32,
     event: &Event,
     kept: &mut Vec<Kept>,
-    gate: &G,
     sink: &mut K,
 ) -> Result<(), PutFault>
     requires valid { IsTrue (is_event plan.now.setup plan.now.program.functions event.now) }
@@ -105,14 +101,14 @@ fn do_valid<C: Cluster, R: Threads + Sync, G: Gate + Sync, K: Sink>(
     ensures fault { IsErrOf result PutFault.Fault → CountRose (K.faults sink.old) (K.faults sink.new) }
     ensures later { K.faults sink.old ≤ K.faults sink.new }
 {
-    let line = do_event(rt, cluster, plan, event, kept, gate)?;
+    let line = do_event(rt, cluster, plan, event, kept)?;
     let told = write_added(cluster, plan, n, number, event, &line, sink);
     drop(line);
     told
 }
 
 /// Does what a nemesis gave, where the plan can have it, and writes its line.
-pub(crate) fn do_added<C: Cluster, R: Threads + Sync, G: Gate + Sync, K: Sink>(
+pub(crate) fn do_added<C: Cluster, R: Threads + Sync, K: Sink>(
     rt: &R,
     cluster: &mut C,
     plan: &Plan,
@@ -120,7 +116,6 @@ pub(crate) fn do_added<C: Cluster, R: Threads + Sync, G: Gate + Sync, K: Sink>(
     number: u32,
     answer: &Option<Event>,
     kept: &mut Vec<Kept>,
-    gate: &G,
     sink: &mut K,
 ) -> Result<(), PutFault>
     requires plan { C.is_of_plan cluster.old plan.now }
@@ -141,7 +136,7 @@ pub(crate) fn do_added<C: Cluster, R: Threads + Sync, G: Gate + Sync, K: Sink>(
         return Ok(());
     };
     if cluster.is_valid(plan, event) {
-        do_valid(rt, cluster, plan, n, number, event, kept, gate, sink)
+        do_valid(rt, cluster, plan, n, number, event, kept, sink)
     } else {
         write_ignored(cluster, plan, n, number, sink)
     }

@@ -7,18 +7,16 @@ ghost use Rattle.boki_machine.specs.Machine.{Machine, apply_events, initial_mach
 
 use crate::cluster::Cluster;
 use boki_types::{Event, Item, Plan};
-use engine_gate::Gate;
 use lb_base::Memory;
 use std::thread::Threads;
 
 /// Does events one after another, and counts them.
-fn apply_list<C: Cluster, R: Threads + Sync, G: Gate + Sync>(
+fn apply_list<C: Cluster, R: Threads + Sync>(
     rt: &R,
     cluster: &mut C,
     plan: &Plan,
     n: &mut u64,
     events: &[Event],
-    gate: &G,
 ) -> Result<(), Memory>
     requires valid { AllByRecursion (λ e. IsTrue (is_event plan.now.setup plan.now.program.functions e)) (events.now) }
     requires room { n.old + length (events.now) < 2 ^ 64 }
@@ -29,7 +27,7 @@ fn apply_list<C: Cluster, R: Threads + Sync, G: Gate + Sync>(
         → C.stands cluster.new plan.now.setup plan.now.program.functions (apply_events plan.now.setup plan.now.program.functions (events.now) m).machine) }
 {
     'events: for event in events {
-        let line = cluster.event(rt, plan, event, gate)?;
+        let line = cluster.event(rt, plan, event)?;
         drop(line);
         *n += 1;
     }
@@ -37,14 +35,13 @@ fn apply_list<C: Cluster, R: Threads + Sync, G: Gate + Sync>(
 }
 
 /// Does events so often.
-fn apply_repeat<C: Cluster, R: Threads + Sync, G: Gate + Sync>(
+fn apply_repeat<C: Cluster, R: Threads + Sync>(
     rt: &R,
     cluster: &mut C,
     plan: &Plan,
     n: &mut u64,
     times: u32,
     events: &[Event],
-    gate: &G,
 ) -> Result<(), Memory>
     requires valid { AllByRecursion (λ e. IsTrue (is_event plan.now.setup plan.now.program.functions e)) (repeat_events times events.now) }
     requires room { n.old + length (repeat_events times events.now) < 2 ^ 64 }
@@ -55,19 +52,18 @@ fn apply_repeat<C: Cluster, R: Threads + Sync, G: Gate + Sync>(
         → C.stands cluster.new plan.now.setup plan.now.program.functions (apply_events plan.now.setup plan.now.program.functions (repeat_events times events.now) m).machine) }
 {
     'times: for _ in 0..times {
-        apply_list(rt, cluster, plan, n, events, gate)?;
+        apply_list(rt, cluster, plan, n, events)?;
     }
     Ok(())
 }
 
 /// Does an item of a plan.
-fn apply_item<C: Cluster, R: Threads + Sync, G: Gate + Sync>(
+fn apply_item<C: Cluster, R: Threads + Sync>(
     rt: &R,
     cluster: &mut C,
     plan: &Plan,
     n: &mut u64,
     item: &Item,
-    gate: &G,
 ) -> Result<(), Memory>
     requires valid { AllByRecursion (λ e. IsTrue (is_event plan.now.setup plan.now.program.functions e)) (events_of item.now) }
     requires room { n.old + length (events_of item.now) < 2 ^ 64 }
@@ -78,21 +74,20 @@ fn apply_item<C: Cluster, R: Threads + Sync, G: Gate + Sync>(
         → C.stands cluster.new plan.now.setup plan.now.program.functions (apply_events plan.now.setup plan.now.program.functions (events_of item.now) m).machine) }
 {
     match item {
-        Item::One(event) => apply_list(rt, cluster, plan, n, std::slice::from_ref(event), gate),
+        Item::One(event) => apply_list(rt, cluster, plan, n, std::slice::from_ref(event)),
         Item::Repeat(times, events) => {
-            apply_repeat(rt, cluster, plan, n, *times, events.as_slice(), gate)
+            apply_repeat(rt, cluster, plan, n, *times, events.as_slice())
         }
     }
 }
 
 /// Does the items of a plan.
-fn apply_items<C: Cluster, R: Threads + Sync, G: Gate + Sync>(
+fn apply_items<C: Cluster, R: Threads + Sync>(
     rt: &R,
     cluster: &mut C,
     plan: &Plan,
     n: &mut u64,
     items: &[Item],
-    gate: &G,
 ) -> Result<(), Memory>
     requires valid { AllByRecursion (λ e. IsTrue (is_event plan.now.setup plan.now.program.functions e)) (events_in items.now) }
     requires room { n.old + length (events_in items.now) < 2 ^ 64 }
@@ -103,17 +98,16 @@ fn apply_items<C: Cluster, R: Threads + Sync, G: Gate + Sync>(
         → C.stands cluster.new plan.now.setup plan.now.program.functions (apply_events plan.now.setup plan.now.program.functions (events_in items.now) m).machine) }
 {
     'items: for item in items {
-        apply_item(rt, cluster, plan, n, item, gate)?;
+        apply_item(rt, cluster, plan, n, item)?;
     }
     Ok(())
 }
 
 /// Does the events of a plan, with no nemeses and without making a line, and tells how many there are.
-pub fn apply_plan<C: Cluster, R: Threads + Sync, G: Gate + Sync>(
+pub fn apply_plan<C: Cluster, R: Threads + Sync>(
     rt: &R,
     cluster: &mut C,
     plan: &Plan,
-    gate: &G,
 ) -> Result<u64, Memory>
     requires is_plan { IsTrue (is_plan plan.now) }
     requires plan { C.is_of_plan cluster.old plan.now }
@@ -123,6 +117,6 @@ pub fn apply_plan<C: Cluster, R: Threads + Sync, G: Gate + Sync>(
         → C.stands cluster.new plan.now.setup plan.now.program.functions (run_alone plan.now).machine) }
 {
     let mut n = 0;
-    apply_items(rt, cluster, plan, &mut n, plan.items.as_slice(), gate)?;
+    apply_items(rt, cluster, plan, &mut n, plan.items.as_slice())?;
     Ok(n)
 }

@@ -11,21 +11,19 @@ ghost use Rattle.run_with.specs.Written.{SinkTook, SinkTookPrefix};
 use crate::cluster::Cluster;
 use crate::one::{do_added, do_planned};
 use boki_types::{Event, Plan};
-use engine_gate::Gate;
 use lb_base::{PutFault, Sink};
 use nemesis::{Kept, ask_at, drop_spent};
 use nemesis_types::Seen;
 use std::thread::Threads;
 
 /// Asks the nemesis at an index, and does what it gives.
-fn ask_nemesis<C: Cluster, R: Threads + Sync, G: Gate + Sync, K: Sink>(
+fn ask_nemesis<C: Cluster, R: Threads + Sync, K: Sink>(
     rt: &R,
     cluster: &mut C,
     plan: &Plan,
     seen: &Seen,
     at: usize,
     kept: &mut Vec<Kept>,
-    gate: &G,
     sink: &mut K,
 ) -> Result<(), PutFault>
     requires some { at < vec_len kept.old }
@@ -44,19 +42,16 @@ fn ask_nemesis<C: Cluster, R: Threads + Sync, G: Gate + Sync, K: Sink>(
     ensures later { K.faults sink.old ≤ K.faults sink.new }
 {
     let (number, answer) = ask_at(kept, at, seen);
-    do_added(
-        rt, cluster, plan, seen.event, number, &answer, kept, gate, sink,
-    )
+    do_added(rt, cluster, plan, seen.event, number, &answer, kept, sink)
 }
 
 /// Asks each nemesis once, in order, and drops those that are spent then.
-fn ask_all<C: Cluster, R: Threads + Sync, G: Gate + Sync, K: Sink>(
+fn ask_all<C: Cluster, R: Threads + Sync, K: Sink>(
     rt: &R,
     cluster: &mut C,
     plan: &Plan,
     seen: &Seen,
     kept: &mut Vec<Kept>,
-    gate: &G,
     sink: &mut K,
 ) -> Result<(), PutFault>
     requires plan { C.is_of_plan cluster.old plan.now }
@@ -74,21 +69,20 @@ fn ask_all<C: Cluster, R: Threads + Sync, G: Gate + Sync, K: Sink>(
 {
     let mut at = 0;
     'turns: for _ in 0..kept.len() {
-        ask_nemesis(rt, cluster, plan, seen, at, kept, gate, sink)?;
+        ask_nemesis(rt, cluster, plan, seen, at, kept, sink)?;
         at = drop_spent(kept, at);
     }
     Ok(())
 }
 
 /// Does an event of the plan, and asks each nemesis behind it.
-pub(crate) fn do_round<C: Cluster, R: Threads + Sync, G: Gate + Sync, K: Sink>(
+pub(crate) fn do_round<C: Cluster, R: Threads + Sync, K: Sink>(
     rt: &R,
     cluster: &mut C,
     plan: &Plan,
     n: u64,
     event: &Event,
     kept: &mut Vec<Kept>,
-    gate: &G,
     sink: &mut K,
 ) -> Result<(), PutFault>
     requires valid { IsTrue (is_event plan.now.setup plan.now.program.functions event.now) }
@@ -105,6 +99,6 @@ pub(crate) fn do_round<C: Cluster, R: Threads + Sync, G: Gate + Sync, K: Sink>(
     ensures fault { IsErrOf result PutFault.Fault → CountRose (K.faults sink.old) (K.faults sink.new) }
     ensures later { K.faults sink.old ≤ K.faults sink.new }
 {
-    let seen = do_planned(rt, cluster, plan, n, event, kept, gate, sink)?;
-    ask_all(rt, cluster, plan, &seen, kept, gate, sink)
+    let seen = do_planned(rt, cluster, plan, n, event, kept, sink)?;
+    ask_all(rt, cluster, plan, &seen, kept, sink)
 }

@@ -12,20 +12,18 @@ ghost use Rattle.run_with.specs.Written.{SinkTook, SinkTookPrefix};
 use crate::cluster::Cluster;
 use crate::rounds::do_round;
 use boki_types::{Event, Item, Plan};
-use engine_gate::Gate;
 use lb_base::{PutFault, Sink};
 use nemesis::Kept;
 use std::thread::Threads;
 
 /// Does events one after another, of which the first has the number `n`.
-fn run_list<C: Cluster, R: Threads + Sync, G: Gate + Sync, K: Sink>(
+fn run_list<C: Cluster, R: Threads + Sync, K: Sink>(
     rt: &R,
     cluster: &mut C,
     plan: &Plan,
     n: &mut u64,
     events: &[Event],
     kept: &mut Vec<Kept>,
-    gate: &G,
     sink: &mut K,
 ) -> Result<(), PutFault>
     requires valid { AllByRecursion (λ e. IsTrue (is_event plan.now.setup plan.now.program.functions e)) (events.now) }
@@ -45,14 +43,14 @@ fn run_list<C: Cluster, R: Threads + Sync, G: Gate + Sync, K: Sink>(
     ensures later { K.faults sink.old ≤ K.faults sink.new }
 {
     'events: for event in events {
-        do_round(rt, cluster, plan, *n, event, kept, gate, sink)?;
+        do_round(rt, cluster, plan, *n, event, kept, sink)?;
         *n += 1;
     }
     Ok(())
 }
 
 /// Does events so often.
-fn run_repeat<C: Cluster, R: Threads + Sync, G: Gate + Sync, K: Sink>(
+fn run_repeat<C: Cluster, R: Threads + Sync, K: Sink>(
     rt: &R,
     cluster: &mut C,
     plan: &Plan,
@@ -60,7 +58,6 @@ fn run_repeat<C: Cluster, R: Threads + Sync, G: Gate + Sync, K: Sink>(
     times: u32,
     events: &[Event],
     kept: &mut Vec<Kept>,
-    gate: &G,
     sink: &mut K,
 ) -> Result<(), PutFault>
     requires valid { AllByRecursion (λ e. IsTrue (is_event plan.now.setup plan.now.program.functions e)) (repeat_events times events.now) }
@@ -80,20 +77,19 @@ fn run_repeat<C: Cluster, R: Threads + Sync, G: Gate + Sync, K: Sink>(
     ensures later { K.faults sink.old ≤ K.faults sink.new }
 {
     'times: for _ in 0..times {
-        run_list(rt, cluster, plan, n, events, kept, gate, sink)?;
+        run_list(rt, cluster, plan, n, events, kept, sink)?;
     }
     Ok(())
 }
 
 /// Does an item of a plan.
-fn run_item<C: Cluster, R: Threads + Sync, G: Gate + Sync, K: Sink>(
+fn run_item<C: Cluster, R: Threads + Sync, K: Sink>(
     rt: &R,
     cluster: &mut C,
     plan: &Plan,
     n: &mut u64,
     item: &Item,
     kept: &mut Vec<Kept>,
-    gate: &G,
     sink: &mut K,
 ) -> Result<(), PutFault>
     requires valid { AllByRecursion (λ e. IsTrue (is_event plan.now.setup plan.now.program.functions e)) (events_of item.now) }
@@ -120,7 +116,6 @@ fn run_item<C: Cluster, R: Threads + Sync, G: Gate + Sync, K: Sink>(
             n,
             std::slice::from_ref(event),
             kept,
-            gate,
             sink,
         ),
         Item::Repeat(times, events) => run_repeat(
@@ -131,21 +126,19 @@ fn run_item<C: Cluster, R: Threads + Sync, G: Gate + Sync, K: Sink>(
             *times,
             events.as_slice(),
             kept,
-            gate,
             sink,
         ),
     }
 }
 
 /// Does the items of a plan.
-pub(crate) fn run_items<C: Cluster, R: Threads + Sync, G: Gate + Sync, K: Sink>(
+pub(crate) fn run_items<C: Cluster, R: Threads + Sync, K: Sink>(
     rt: &R,
     cluster: &mut C,
     plan: &Plan,
     n: &mut u64,
     items: &[Item],
     kept: &mut Vec<Kept>,
-    gate: &G,
     sink: &mut K,
 ) -> Result<(), PutFault>
     requires valid { AllByRecursion (λ e. IsTrue (is_event plan.now.setup plan.now.program.functions e)) (events_in items.now) }
@@ -165,7 +158,7 @@ pub(crate) fn run_items<C: Cluster, R: Threads + Sync, G: Gate + Sync, K: Sink>(
     ensures later { K.faults sink.old ≤ K.faults sink.new }
 {
     'items: for item in items {
-        run_item(rt, cluster, plan, n, item, kept, gate, sink)?;
+        run_item(rt, cluster, plan, n, item, kept, sink)?;
     }
     Ok(())
 }

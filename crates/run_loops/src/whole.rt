@@ -12,18 +12,16 @@ ghost use Rattle.run_with.specs.Written.{SinkTookPrefix, text_of_lines};
 use crate::cluster::Cluster;
 use crate::running::run_items;
 use boki_types::Plan;
-use engine_gate::Gate;
 use lb_base::{PutFault, Sink};
 use nemesis::Kept;
 use std::thread::Threads;
 
 /// Runs a plan with these nemeses, and writes its lines.
-pub fn run_events<C: Cluster, R: Threads + Sync, G: Gate + Sync, K: Sink>(
+pub fn run_events<C: Cluster, R: Threads + Sync, K: Sink>(
     rt: &R,
     cluster: &mut C,
     plan: &Plan,
     mut kept: Vec<Kept>,
-    gate: &G,
     sink: &mut K,
 ) -> Result<(), PutFault>
     requires is_plan { IsTrue (is_plan plan.now) }
@@ -48,7 +46,6 @@ pub fn run_events<C: Cluster, R: Threads + Sync, G: Gate + Sync, K: Sink>(
         &mut n,
         plan.items.as_slice(),
         &mut kept,
-        gate,
         sink,
     )
 }

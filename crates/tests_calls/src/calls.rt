@@ -4,6 +4,7 @@ ghost use Rattle.std.specs.Prelude.{◌≤◌};
 
 use boki_call::{Status, call};
 use boki_types::Kind;
+use cluster_run::Cluster;
 use lb_base::{MemSink, MemSource, Sink, Source, SureSink, SureSource};
 use std::alloc::{AllocError, Global};
 use std::sync::Wait;
@@ -11,7 +12,7 @@ use std::test::Fail;
 use std::thread::Threads;
 
 /// The smallest use: one invocation with a write and a read.
-const FIRST: &str = r#"setup 1 1 1 R
+pub(crate) const FIRST: &str = r#"setup 1 1 1 R
 function f(a)
   write "x", a
   let v = read "x"
@@ -153,7 +154,7 @@ end
 const USAGE: &str =
     "usage: boki run [--with I] [--json] | judge | check | make N [--plan] | live | flow | log | audit | mux\n";
 
-fn words_of(alloc: Global, texts: &[&str]) -> Result<Vec<String>, AllocError> {
+pub(crate) fn words_of(alloc: Global, texts: &[&str]) -> Result<Vec<String>, AllocError> {
     let mut words = Vec::new(alloc);
     for text in texts {
         words.push(String::from_str(alloc, text)?)?;
@@ -169,7 +170,7 @@ fn called<R: Threads + Wait + Sync, S: Source, K: Sink>(
     source: &mut S,
     sink: &mut K,
 ) -> Status {
-    call(rt, alloc, words, source, sink, Vec::new(alloc))
+    call::<Cluster, R, S, K>(rt, alloc, words, source, sink, Vec::new(alloc))
 }
 
 /// Calls over devices that never fail.
@@ -237,6 +238,15 @@ fn plans_are_printed_in_their_canonical_text(rt: HostRuntime) -> Result<(), Fail
 }
 
 #[test]
+fn transfers_are_run_and_summed_up(rt: HostRuntime) -> Result<(), Fail> {
+    let (status, sink) = answer(&rt, rt.alloc(), &["make", "1"], LOOSE.as_bytes())?;
+    assert_eq!(rt; status, Status::Done);
+    let line = "events 27 records 5 turns 5 ended 1 objects 10 sum 10000\n";
+    assert_eq!(rt; sink.bytes(), line.as_bytes());
+    Ok(())
+}
+
+#[test]
 fn live_texts_are_run(rt: HostRuntime) -> Result<(), Fail> {
     let text = "live 1\n1 append 7 \"a\"\n1 count 7\n";
     let (status, sink) = answer(&rt, rt.alloc(), &["live"], text.as_bytes())?;
@@ -257,8 +267,8 @@ fn turns_are_judged(rt: HostRuntime) -> Result<(), Fail> {
 
 #[test]
 fn other_words_give_the_usage_line(rt: HostRuntime) -> Result<(), Fail> {
-    // Behind the words that are no command's stand the commands and options that aren't built yet.
-    let words: [&[&str]; 14] = [
+    // Behind the words that are no command's stand the commands that aren't built yet.
+    let words: [&[&str]; 13] = [
         &[],
         &[""],
         &["run", "--with", "0"],
@@ -267,9 +277,8 @@ fn other_words_give_the_usage_line(rt: HostRuntime) -> Result<(), Fail> {
         &["make", "4001"],
         &["make", "0", "--plan"],
         &["make", "--", "5", "--plan"],
-        &["run", "--json"],
-        &["run", "--with", "all"],
-        &["make", "5"],
+        &["run", "--with", "1"],
+        &["run", "--json", "--json"],
         &["flow"],
         &["log"],
         &["mux"],
@@ -359,26 +368,6 @@ fn a_text_past_the_limit_is_refused_as_a_whole(rt: HostRuntime) -> Result<(), Fa
         let kind = Kind::Length;
         assert_eq!(rt; status, Status::Refused { line: 0, kind });
         assert_eq!(rt; sink.bytes(), b"refused 0 length\n".as_slice());
-    }
-    Ok(())
-}
-
-#[test]
-fn plans_outside_the_small_form_are_not_built(rt: HostRuntime) -> Result<(), Fail> {
-    let texts = [
-        "setup 1 1 2 R\nevents\n",
-        "setup 1 1 1 W\nevents\n",
-        "setup 1 1 1 R\nobject \"x\" 1\nevents\n",
-        "setup 1 1 1 R\nfunction f(a)\npush a, a\nend\nevents\n",
-        "setup 1 1 1 R\nevents\nkill 1\n",
-        "setup 1 1 1 R\nevents\nstart 1 1 1\nstart 2 1 1\n",
-        "setup 1 1 1 R\nevents\nrepeat 1\nstart 1 1 1\nend\n",
-    ];
-    for text in texts {
-        let (status, sink) = answer(&rt, rt.alloc(), &["run"], text.as_bytes())?;
-        let kind = Kind::NotBuilt;
-        assert_eq!(rt; status, Status::Refused { line: 0, kind });
-        assert_eq!(rt; sink.bytes(), b"refused 0 notbuilt\n".as_slice());
     }
     Ok(())
 }

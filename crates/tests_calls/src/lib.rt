@@ -6,4 +6,8 @@ mod calls;
 #[cfg(test)]
 mod devices;
 #[cfg(test)]
+mod nemeses;
+#[cfg(test)]
+mod steady;
+#[cfg(test)]
 mod words;

@@ -1,4 +1,4 @@
-use Rattle.std.proofs.Common.{◌∙◌, ◌<◌, ◌-◌, ap, sym, subst}
+use Rattle.std.proofs.Common.{◌<◌, ◌-◌, sym, subst}
 use Rattle.cluster_events.proofs.Needs.{slot_there}
 use Rattle.cluster_events.proofs.Advanced.{first_of}
 use Rattle.cluster_events.proofs.Switches.{end_said}

@@ -1,6 +1,3 @@
-use Rattle.std.proofs.Common.{◌≡◌, ◌∙◌, true, List, ℕ, Some, refl, sym, ap, subst}
-use Rattle.boki_types.specs.declared.body.Body.{Body}
-use Rattle.boki_model.specs.Bodies.{in_range}
 use Rattle.cluster_events.proofs.Submits.{path_is, submit_range, submit_said}
 use Rattle.cluster_events.proofs.sending.submit.Goals as goal
 

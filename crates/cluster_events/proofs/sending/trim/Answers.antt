@@ -1,4 +1,4 @@
-use Rattle.std.proofs.Common.{◌∙◌, ◌<◌, ◌-◌, ap, sym, subst, arith}
+use Rattle.std.proofs.Common.{◌<◌, ◌-◌, sym, subst, arith}
 use Rattle.cluster_events.proofs.Needs.{slot_there}
 use Rattle.cluster_events.proofs.Switches.{trim_done}
 use Rattle.cluster_events.proofs.sending.trim.Goals as goal

@@ -1,0 +1,14 @@
+pub mod Appended
+pub mod Moves
+pub mod Standing
+pub mod Leading
+pub mod StepCases
+pub mod Misses
+pub mod Adopted
+pub mod Marked
+pub mod CacheFolds
+pub mod Beginning
+pub mod SentAsks
+pub mod SentJoins
+pub mod ScriptCases
+pub mod Taken

@@ -1,0 +1,9 @@
+pub mod Entries
+pub mod Folding
+pub mod KeyValues
+pub mod Holding
+pub mod LastValues
+pub mod OneTurn
+pub mod Parts
+pub mod Passed
+pub mod Walks

@@ -1,0 +1,4 @@
+pub mod Folded
+pub mod Reported
+pub mod Told
+pub mod Turned

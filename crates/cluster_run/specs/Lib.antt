@@ -1,0 +1,4 @@
+pub mod Clusters
+pub mod Groups
+pub mod Attempts
+pub mod Killed

@@ -1,7 +1,0 @@
-use Rattle.std.proofs.Common.{◌≡◌, take}
-use Rattle.std.specs.List.{count_by}
-use Rattle.small_run.specs.Small.{starts}
-use Rattle.small_run.proofs.form.count_starts.Given as goal
-
-abbrev pub invariant-loop-item : goal.invariant-loop-item
-invariant-loop-item l = l.count ≡ count_by starts (take l.item-index l.items)
