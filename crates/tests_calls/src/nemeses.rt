@@ -147,7 +147,11 @@ fn the_nemesis_that_is_named_disturbs_the_run(rt: HostRuntime) -> Result<(), Fai
         (&["run", "--with", "1"], FIRST, FIRST_KILLED),
         (&["run", "--with", "2"], SET, SET_DOUBLED),
         (&["run", "--json"], FIRST, FIRST_JSON),
-        (&["run", "--json", "--with", "2"], "setup 1 1 1 R\nevents\n", EMPTY_JSON),
+        (
+            &["run", "--json", "--with", "2"],
+            "setup 1 1 1 R\nevents\n",
+            EMPTY_JSON,
+        ),
     ];
     for (texts, text, printed) in runs {
         let (status, sink) = answer(&rt, rt.alloc(), texts, text)?;

@@ -22,10 +22,10 @@ struct Catcher {
 
 impl Nemesis for Catcher {
     ghost automaton = { λ s. record {
-        list = [];
-        next = λ list seen. (Some (event.Catch s.engine), list);
-        seed = λ list n. list;
-        ends = λ list. false
+      list = [];
+      next = λ list seen. (Some (event.Catch s.engine), list);
+      seed = λ list n. list;
+      ends = λ list. false;
     } };
 
     fn next(&mut self, _seen: &Seen) -> Option<Event> {
@@ -49,10 +49,10 @@ struct Restarter {
 
 impl Nemesis for Restarter {
     ghost automaton = { λ s. record {
-        list = [];
-        next = λ list seen. (Some (event.Restart s.engine), list);
-        seed = λ list n. list;
-        ends = λ list. false
+      list = [];
+      next = λ list seen. (Some (event.Restart s.engine), list);
+      seed = λ list n. list;
+      ends = λ list. false;
     } };
 
     fn next(&mut self, _seen: &Seen) -> Option<Event> {
@@ -76,10 +76,10 @@ struct Misser {
 
 impl Nemesis for Misser {
     ghost automaton = { λ s. record {
-        list = [];
-        next = λ list seen. (Some (event.Miss s.attempt), list);
-        seed = λ list n. list;
-        ends = λ list. false
+      list = [];
+      next = λ list seen. (Some (event.Miss s.attempt), list);
+      seed = λ list n. list;
+      ends = λ list. false;
     } };
 
     fn next(&mut self, _seen: &Seen) -> Option<Event> {
@@ -154,7 +154,12 @@ fn sixteen(alloc: Global) -> Result<Vec<Box<dyn Nemesis + Send>>, Memory>
     nemeses.push(Box::new(alloc, Misser { attempt: 9 })?)?;
     nemeses.push(Box::new(alloc, Misser { attempt: 4096 })?)?;
     nemeses.push(Box::new(alloc, Misser { attempt: 4097 })?)?;
-    nemeses.push(Box::new(alloc, Misser { attempt: 4294967295 })?)?;
+    nemeses.push(Box::new(
+        alloc,
+        Misser {
+            attempt: 4294967295,
+        },
+    )?)?;
     Ok(nemeses)
 }
 
@@ -202,6 +207,9 @@ fn an_event_that_the_plan_cannot_have_is_ignored(rt: HostRuntime) -> Result<(), 
 fn sixteen_nemeses_end(rt: HostRuntime) -> Result<(), Fail> {
     let (status, sink) = run_with(&rt, rt.alloc(), sixteen(rt.alloc())?)?;
     assert_eq!(rt; status, Status::Done);
-    assert!(rt; sink.bytes().ends_with(b"\nreport\nturn submit 1 f(4)\nend\n"));
+    assert!(rt;
+        sink.bytes()
+            .ends_with(b"\nreport\nturn submit 1 f(4)\nend\n")
+    );
     Ok(())
 }
