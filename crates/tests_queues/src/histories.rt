@@ -1,15 +1,15 @@
 //! Histories of pushes and pops, made by a generator, beside a plain scan of them.
-ghost use Rattle.std.specs.Prelude.{◌<◌, IfOk};
+ghost use Rattle.std.specs.Prelude.{◌<◌};
 ghost use Rattle.step_log.specs.Sound.{live_bodies};
 ghost use Rattle.boki_queue.specs.QueueStates.{AreQueueFolds};
 ghost use Rattle.tests_queues.specs.Logs.{IsLog};
 
-use crate::logs::{Change, new_log, order, pop, send};
+use crate::asking::{pop_takes, queue_holds};
+use crate::logs::{Change, log_of};
 use boki_queue::QueueCache;
 use book_api::Book;
-use lb_base::{Memory, Value, Words, print_int};
+use lb_base::Memory;
 use std::alloc::Global;
-use std::collections::VecDeque;
 use std::test::Fail;
 
 /// The generator's first state.
@@ -32,66 +32,84 @@ impl Generator {
             .wrapping_add(1_442_695_040_888_963_407);
         (self.state >> 33) as u32 % bound
     }
-}
 
-fn change(alloc: Global, generator: &mut Generator) -> Result<Change, Memory> {
-    let name = if generator.below(2) == 0 { "a" } else { "b" };
-    let queue = Words::from_text(alloc, name)?;
-    if generator.below(5) < 3 {
-        let text = print_int(alloc, i64::from(generator.below(1_000)))?;
-        Ok(Change::Push(queue, text))
-    } else {
-        Ok(Change::Pop(queue))
+    fn queue(&mut self) -> &'static str {
+        if self.below(2) == 0 { "a" } else { "b" }
+    }
+
+    fn text(&mut self) -> &'static str {
+        match self.below(6) {
+            0 => "0",
+            1 => "1",
+            2 => "2",
+            3 => "3",
+            4 => "4",
+            _ => "5",
+        }
     }
 }
 
-fn history(alloc: Global, generator: &mut Generator) -> Result<Vec<Change>, Memory> {
+fn change(generator: &mut Generator) -> Change<'static> {
+    let queue = generator.queue();
+    if generator.below(5) < 3 {
+        Change::Push(queue, generator.text())
+    } else {
+        Change::Pop(queue)
+    }
+}
+
+fn history(alloc: Global, generator: &mut Generator) -> Result<Vec<Change<'static>>, Memory> {
     let mut changes = Vec::new(alloc);
     for _ in 0..4 + generator.below(16) {
-        changes.push(change(alloc, generator)?)?;
+        changes.push(change(generator))?;
     }
     Ok(changes)
 }
 
-// A book with these records.
-fn log_of(alloc: Global, changes: &[Change]) -> Result<Book, Memory>
-    ensures { IfOk result IsLog }
-{
-    let mut book = new_log(alloc)?;
-    for change in changes {
-        send(alloc, &mut book, change)?;
-    }
-    order(&mut book)?;
-    Ok(book)
-}
-
-// The front of a queue behind these records, or none, by a plain scan.
-fn front(alloc: Global, changes: &[Change], queue: &Words) -> Result<Value, Memory> {
-    let mut waiting = VecDeque::new(alloc);
+// What a queue holds behind these records, the front first, by a plain scan.
+fn scan<'a>(
+    alloc: Global,
+    changes: &[Change<'a>],
+    queue: &str,
+) -> Result<Vec<&'a str>, Memory> {
+    let mut waiting = Vec::new(alloc);
     for change in changes {
         match change {
             Change::Push(named, text) => {
-                if named == queue {
-                    waiting.push_back(text.clone()?)?;
+                if *named == queue {
+                    waiting.push(*text)?;
                 }
             }
             Change::Pop(named) => {
-                if named == queue {
-                    waiting.pop_front();
+                if *named == queue && !waiting.is_empty() {
+                    waiting.remove(0);
                 }
             }
         }
     }
-    match waiting.pop_front() {
-        Some(text) => Ok(Value::Text(text)),
-        None => Ok(Value::Nothing),
-    }
+    Ok(waiting)
 }
 
-// Whether a pop of the history is told as the plain scan has it; a push isn't asked for.
+// Whether a pop takes what the plain scan finds at the front before it.
+fn pop_agrees(
+    alloc: Global,
+    changes: &[Change<'_>],
+    queue: &str,
+    book: &Book,
+    cache: &mut QueueCache,
+) -> Result<bool, Memory>
+    requires log { IsLog book.now }
+    requires folds { AreQueueFolds cache.old (live_bodies book.now) }
+    ensures { AreQueueFolds cache.new (live_bodies book.now) }
+{
+    let waiting = scan(alloc, changes, queue)?;
+    pop_takes(alloc, book, cache, changes.len() as u64, waiting.first().copied())
+}
+
+// Whether the queue of the record at a place is told as the plain scan has it, and a pop there, too.
 fn agrees_at(
     alloc: Global,
-    changes: &[Change],
+    changes: &[Change<'_>],
     book: &Book,
     cache: &mut QueueCache,
     place: usize,
@@ -100,33 +118,47 @@ fn agrees_at(
     requires folds { AreQueueFolds cache.old (live_bodies book.now) }
     ensures { AreQueueFolds cache.new (live_bodies book.now) }
 {
-    let Some(Change::Pop(queue)) = changes.get(place) else {
+    if place >= changes.len() {
         return Ok(true);
-    };
-    let wanted = front(alloc, &changes[..place], queue)?;
-    let told = pop(alloc, book, cache, place as u64)?;
-    Ok(told == Some(wanted))
+    }
+    match changes[place] {
+        Change::Push(queue, _) => {
+            let waiting = scan(alloc, &changes[..place + 1], queue)?;
+            queue_holds(alloc, book, cache, place as u64, &waiting)
+        }
+        Change::Pop(queue) => pop_agrees(alloc, &changes[..place], queue, book, cache),
+    }
 }
 
-fn agrees(alloc: Global, generator: &mut Generator) -> Result<bool, Memory> {
-    let changes = history(alloc, generator)?;
-    let book = log_of(alloc, &changes)?;
+fn all_agree(
+    alloc: Global,
+    changes: &[Change<'_>],
+    book: &Book,
+    generator: &mut Generator,
+) -> Result<bool, Memory>
+    requires { IsLog book.now }
+{
     let mut cache = QueueCache::new(alloc)?;
     'looks: for _ in 0..30 {
         let place = generator.below(20) as usize;
-        if !agrees_at(alloc, &changes, &book, &mut cache, place)? {
+        if !agrees_at(alloc, changes, book, &mut cache, place)? {
             return Ok(false);
         }
     }
     Ok(true)
 }
 
+fn agrees(alloc: Global, generator: &mut Generator) -> Result<bool, Memory> {
+    let changes = history(alloc, generator)?;
+    let book = log_of(alloc, &changes)?;
+    all_agree(alloc, &changes, &book, generator)
+}
+
 #[test]
-fn pops_agree_with_a_plain_scan(rt: HostRuntime) -> Result<(), Fail> {
-    let alloc = rt.alloc();
+fn answers_agree_with_a_plain_scan(rt: HostRuntime) -> Result<(), Fail> {
     let mut generator = Generator { state: SEED };
     for _ in 0..200 {
-        assert!(rt; agrees(alloc, &mut generator)?);
+        assert!(rt; agrees(rt.alloc(), &mut generator)?);
     }
     Ok(())
 }

@@ -1,7 +1,8 @@
-//! Tests of the libraries of queues and of transactions over their public calls, which stand apart so that those are
-//! proved once.
+//! Tests of the library of queues over its public calls, which stand apart so that it is proved once.
 #![tactic(auto)]
 
+#[cfg(test)]
+mod asking;
 #[cfg(test)]
 mod histories;
 #[cfg(test)]

@@ -13,41 +13,58 @@ use std::alloc::Global;
 use step_log::{at, send_body};
 
 /// A record of a queue: a push of a text, or a pop.
-#[derive(Drop)]
-pub(crate) enum Change {
-    Push(Words, Words),
-    Pop(Words),
+#[derive(Clone, Copy)]
+pub(crate) enum Change<'a> {
+    Push(&'a str, &'a str),
+    Pop(&'a str),
 }
 
-/// The invocation whose records they are.
-pub(crate) fn path() -> Path {
+// The invocation whose records they are.
+fn path() -> Path {
     Path::request(1).unwrap()
 }
 
-/// A book without records.
-pub(crate) fn new_log(alloc: Global) -> Result<Book, Memory>
+/// A book whose engine sees these records.
+pub(crate) fn log_of(alloc: Global, changes: &[Change<'_>]) -> Result<Book, Memory>
+    ensures { IfOk result IsLog }
+{
+    let mut book = new_log(alloc)?;
+    fill(alloc, &mut book, changes)?;
+    Ok(book)
+}
+
+fn fill(alloc: Global, book: &mut Book, changes: &[Change<'_>]) -> Result<(), Memory>
+    requires { IsLog book.old }
+    ensures { IsLog book.new }
+{
+    for change in changes {
+        send(alloc, book, *change)?;
+    }
+    order(book)
+}
+
+fn new_log(alloc: Global) -> Result<Book, Memory>
     ensures { IfOk result IsLog }
 {
     Book::new(alloc, 1, 1, 1)
 }
 
-/// Sends a record of the invocation.
-pub(crate) fn send(alloc: Global, book: &mut Book, change: &Change) -> Result<(), Memory>
+fn send(alloc: Global, book: &mut Book, change: Change<'_>) -> Result<(), Memory>
     requires { IsLog book.old }
     ensures { IsLog book.new }
 {
-    let body = body_of(change)?;
+    let body = body_of(alloc, change)?;
     let sent = send_if_ranged(alloc, book, &body);
     drop(body);
     sent
 }
 
-fn body_of(change: &Change) -> Result<Body, Memory> {
+fn body_of(alloc: Global, change: Change<'_>) -> Result<Body, Memory> {
     let path = path();
     match change {
         Change::Push(queue, text) => {
-            let queue = queue.clone()?;
-            let value = Value::Text(text.clone()?);
+            let queue = Words::from_text(alloc, queue)?;
+            let value = Value::Text(Words::from_text(alloc, text)?);
             Ok(Body::Push {
                 path,
                 index: 1,
@@ -58,7 +75,7 @@ fn body_of(change: &Change) -> Result<Body, Memory> {
         Change::Pop(queue) => Ok(Body::Pop {
             path,
             index: 1,
-            queue: queue.clone()?,
+            queue: Words::from_text(alloc, queue)?,
         }),
     }
 }
@@ -112,9 +129,9 @@ fn is_text(value: &Value) -> bool
     }
 }
 
-/// Orders what was sent, and shows it to the engine.
+// Orders what was sent, and shows it to the engine.
 #[tactic(auto, using(crate::proofs::Books::cut_is_log, crate::proofs::Books::caught_is_log))]
-pub(crate) fn order(book: &mut Book) -> Result<(), Memory>
+fn order(book: &mut Book) -> Result<(), Memory>
     requires { IsLog book.old }
     ensures { IsLog book.new }
 {
