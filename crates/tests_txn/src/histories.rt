@@ -1,13 +1,14 @@
 //! Histories of commits, made by a generator, beside a plain scan of them.
-ghost use Rattle.std.specs.Prelude.{◌<◌, IfOk};
+ghost use Rattle.std.specs.Prelude.{◌<◌};
 ghost use Rattle.step_log.specs.Sound.{live_bodies};
 ghost use Rattle.boki_txn.specs.TxnStates.{AreTxnFolds};
 ghost use Rattle.tests_txn.specs.Logs.{IsLog};
 
-use crate::logs::{Commit, good, new_log, order, send};
+use crate::asking::{value_is, values_are};
+use crate::logs::{Commit, good, log_of};
 use boki_txn::TxnCache;
 use book_api::Book;
-use lb_base::{List, Memory, Seqnum, Value, Words, print_int};
+use lb_base::Memory;
 use std::alloc::Global;
 use std::test::Fail;
 
@@ -32,117 +33,141 @@ impl Generator {
         (self.state >> 33) as u32 % bound
     }
 
-    fn name(&mut self, alloc: Global) -> Result<Words, Memory> {
-        let name = match self.below(3) {
+    fn name(&mut self) -> &'static str {
+        match self.below(3) {
             0 => "a",
             1 => "b",
             _ => "c",
-        };
-        Words::from_text(alloc, name)
+        }
+    }
+
+    fn text(&mut self) -> &'static str {
+        match self.below(6) {
+            0 => "0",
+            1 => "1",
+            2 => "2",
+            3 => "3",
+            4 => "4",
+            _ => "5",
+        }
     }
 }
 
-fn commit(alloc: Global, generator: &mut Generator, count: u32) -> Result<Commit, Memory> {
-    Ok(Commit {
+fn commit(generator: &mut Generator, count: u32) -> Commit<'static> {
+    Commit {
         begin: u64::from(generator.below(count % 32 + 1)),
-        read: generator.name(alloc)?,
-        written: generator.name(alloc)?,
-        text: print_int(alloc, i64::from(generator.below(1_000)))?,
-    })
+        read: generator.name(),
+        written: generator.name(),
+        text: generator.text(),
+    }
 }
 
-fn history(alloc: Global, generator: &mut Generator) -> Result<Vec<Commit>, Memory> {
+fn history(alloc: Global, generator: &mut Generator) -> Result<Vec<Commit<'static>>, Memory> {
     let mut commits = Vec::new(alloc);
     for count in 0..4 + generator.below(12) {
-        commits.push(commit(alloc, generator, count)?)?;
+        commits.push(commit(generator, count))?;
     }
     Ok(commits)
 }
 
-// A book with these records.
-fn log_of(alloc: Global, commits: &[Commit]) -> Result<Book, Memory>
-    ensures { IfOk result IsLog }
-{
-    let mut book = new_log(alloc)?;
-    for commit in commits {
-        send(alloc, &mut book, commit)?;
+// Whether a commit meets no write of those behind its begin that succeeded.
+fn succeeds(commit: &Commit<'_>, past: &[Commit<'_>], done: &[bool]) -> bool {
+    let mut seq = 0u64;
+    for (other, ok) in past.iter().zip(done.iter()) {
+        seq = seq.wrapping_add(1);
+        let meets = other.written == commit.read || other.written == commit.written;
+        if *ok && seq > commit.begin && meets {
+            return false;
+        }
     }
-    order(&mut book)?;
-    Ok(book)
+    true
 }
 
 // Which of the commits succeed, by a plain scan.
-fn scan(alloc: Global, commits: &[Commit]) -> Result<Vec<bool>, Memory> {
+fn scan(alloc: Global, commits: &[Commit<'_>]) -> Result<Vec<bool>, Memory> {
     let mut done: Vec<bool> = Vec::new(alloc);
     for commit in commits {
-        let mut good = true;
-        let mut seq = 0;
-        for (past, ok) in commits.iter().zip(done.iter()) {
-            seq += 1;
-            if *ok
-                && seq > commit.begin
-                && (past.written == commit.read || past.written == commit.written)
-            {
-                good = false;
-            }
-        }
+        let good = succeeds(commit, commits, &done);
         done.push(good)?;
     }
     Ok(done)
 }
 
-// The value of a name behind the first commits, by a plain scan.
-fn value(
-    alloc: Global,
-    commits: &[Commit],
+// The text of a name behind the first commits, or none, by a plain scan.
+fn text_of<'a>(
+    commits: &[Commit<'a>],
     done: &[bool],
     count: usize,
     name: &str,
-) -> Result<Value, Memory> {
-    let mut value = Value::Nothing;
+) -> Option<&'a str> {
+    let mut text = None;
     for (commit, ok) in commits.iter().zip(done.iter()).take(count) {
-        if *ok && commit.written.is(name) {
-            value = Value::Text(commit.text.clone()?);
+        if *ok && commit.written == name {
+            text = Some(commit.text);
         }
     }
-    Ok(value)
+    text
 }
 
-fn agrees(alloc: Global, generator: &mut Generator) -> Result<bool, Memory> {
-    let commits = history(alloc, generator)?;
-    let done = scan(alloc, &commits)?;
-    let book = log_of(alloc, &commits)?;
+// Whether the values before a record are told as the plain scan has them.
+fn values_agree(
+    alloc: Global,
+    commits: &[Commit<'_>],
+    done: &[bool],
+    book: &Book,
+    cache: &mut TxnCache,
+    count: u32,
+) -> Result<bool, Memory>
+    requires log { IsLog book.now }
+    requires folds { AreTxnFolds cache.old (live_bodies book.now) }
+    ensures { AreTxnFolds cache.new (live_bodies book.now) }
+{
+    let seq = u64::from(count) + 1;
+    let [a, b, c] = [
+        text_of(commits, done, count as usize, "a"),
+        text_of(commits, done, count as usize, "b"),
+        text_of(commits, done, count as usize, "c"),
+    ];
+    Ok(value_is(book, cache, seq, "a", a)?
+        && values_are(alloc, book, cache, seq, ("c", "b"), (c, b))?)
+}
+
+fn all_agree(
+    alloc: Global,
+    commits: &[Commit<'_>],
+    done: &[bool],
+    book: &Book,
+    generator: &mut Generator,
+) -> Result<bool, Memory>
+    requires { IsLog book.now }
+{
     let mut cache = TxnCache::new(alloc)?;
     'looks: for _ in 0..20 {
-        let place = generator.below(16) as usize;
-        let told = good(alloc, &book, &mut cache, place as u64)?;
-        if told != done.get(place).copied() {
+        let place = generator.below(16);
+        let told = good(alloc, book, &mut cache, u64::from(place))?;
+        if told != done.get(place as usize).copied() {
             return Ok(false);
         }
-        let count = generator.below(16) as usize;
-        let told = cache.snapshot_get(&book, 1, Seqnum(count as u64 + 1), "a")?;
-        if told != value(alloc, &commits, &done, count, "a")? {
-            return Ok(false);
-        }
-        let mut names = Vec::new(alloc);
-        names.push(Words::from_text(alloc, "c")?)?;
-        names.push(Words::from_text(alloc, "b")?)?;
-        let told = cache.snapshot_all(&book, 1, Seqnum(count as u64 + 1), &names)?;
-        if told.as_slice()[0] != value(alloc, &commits, &done, count, "c")?
-            || told.as_slice()[1] != value(alloc, &commits, &done, count, "b")?
-        {
+        let count = generator.below(16);
+        if !values_agree(alloc, commits, done, book, &mut cache, count)? {
             return Ok(false);
         }
     }
     Ok(true)
 }
 
+fn agrees(alloc: Global, generator: &mut Generator) -> Result<bool, Memory> {
+    let commits = history(alloc, generator)?;
+    let done = scan(alloc, &commits)?;
+    let book = log_of(alloc, &commits)?;
+    all_agree(alloc, &commits, &done, &book, generator)
+}
+
 #[test]
 fn commits_agree_with_a_plain_scan(rt: HostRuntime) -> Result<(), Fail> {
-    let alloc = rt.alloc();
     let mut generator = Generator { state: SEED };
     for _ in 0..200 {
-        assert!(rt; agrees(alloc, &mut generator)?);
+        assert!(rt; agrees(rt.alloc(), &mut generator)?);
     }
     Ok(())
 }

@@ -12,29 +12,46 @@ use lb_base::{List, Memory, Path, Value, Words};
 use std::alloc::Global;
 use step_log::{at, send_body};
 
-/// A commit with its begin at a seqnum, which read one name and writes one.
-#[derive(Drop)]
-pub(crate) struct Commit {
+/// A commit with its begin at a seqnum, which read one name and writes a text to one.
+#[derive(Clone, Copy)]
+pub(crate) struct Commit<'a> {
     pub(crate) begin: u64,
-    pub(crate) read: Words,
-    pub(crate) written: Words,
-    pub(crate) text: Words,
+    pub(crate) read: &'a str,
+    pub(crate) written: &'a str,
+    pub(crate) text: &'a str,
 }
 
-/// The invocation whose records they are.
-pub(crate) fn path() -> Path {
+// The invocation whose records they are.
+fn path() -> Path {
     Path::request(1).unwrap()
 }
 
-/// A book without records.
-pub(crate) fn new_log(alloc: Global) -> Result<Book, Memory>
+/// A book whose engine sees these records.
+pub(crate) fn log_of(alloc: Global, commits: &[Commit<'_>]) -> Result<Book, Memory>
+    ensures { IfOk result IsLog }
+{
+    let mut book = new_log(alloc)?;
+    fill(alloc, &mut book, commits)?;
+    Ok(book)
+}
+
+fn fill(alloc: Global, book: &mut Book, commits: &[Commit<'_>]) -> Result<(), Memory>
+    requires { IsLog book.old }
+    ensures { IsLog book.new }
+{
+    for commit in commits {
+        send(alloc, book, *commit)?;
+    }
+    order(book)
+}
+
+fn new_log(alloc: Global) -> Result<Book, Memory>
     ensures { IfOk result IsLog }
 {
     Book::new(alloc, 1, 1, 1)
 }
 
-/// Sends a commit.
-pub(crate) fn send(alloc: Global, book: &mut Book, commit: &Commit) -> Result<(), Memory>
+fn send(alloc: Global, book: &mut Book, commit: Commit<'_>) -> Result<(), Memory>
     requires { IsLog book.old }
     ensures { IsLog book.new }
 {
@@ -44,19 +61,28 @@ pub(crate) fn send(alloc: Global, book: &mut Book, commit: &Commit) -> Result<()
     sent
 }
 
-fn body_of(alloc: Global, commit: &Commit) -> Result<Body, Memory> {
-    let mut names = List::new(alloc);
-    names.push(commit.read.clone()?)?;
-    let mut writes = List::new(alloc);
-    let value = Value::Text(commit.text.clone()?);
-    writes.push((commit.written.clone()?, value))?;
+fn body_of(alloc: Global, commit: Commit<'_>) -> Result<Body, Memory> {
     Ok(Body::TxnCommit {
         path: path(),
         index: 1,
         begin: commit.begin,
-        names,
-        writes,
+        names: names_of(alloc, commit.read)?,
+        writes: writes_of(alloc, commit)?,
     })
+}
+
+fn names_of(alloc: Global, name: &str) -> Result<List<Words>, Memory> {
+    let mut names = List::new(alloc);
+    names.push(Words::from_text(alloc, name)?)?;
+    Ok(names)
+}
+
+fn writes_of(alloc: Global, commit: Commit<'_>) -> Result<List<(Words, Value)>, Memory> {
+    let mut writes = List::new(alloc);
+    let name = Words::from_text(alloc, commit.written)?;
+    let value = Value::Text(Words::from_text(alloc, commit.text)?);
+    writes.push((name, value))?;
+    Ok(writes)
 }
 
 #[tactic(auto, using(crate::proofs::Books::sent_is_log))]
@@ -120,9 +146,9 @@ fn is_text(value: &Value) -> bool
     }
 }
 
-/// Orders what was sent, and shows it to the engine.
+// Orders what was sent, and shows it to the engine.
 #[tactic(auto, using(crate::proofs::Books::cut_is_log, crate::proofs::Books::caught_is_log))]
-pub(crate) fn order(book: &mut Book) -> Result<(), Memory>
+fn order(book: &mut Book) -> Result<(), Memory>
     requires { IsLog book.old }
     ensures { IsLog book.new }
 {
