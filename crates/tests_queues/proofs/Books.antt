@@ -20,11 +20,11 @@ new_is_log (Ok b) is = subst IsLog (sym is) (record { sound = (tt, tt); engine =
 new_is_log (Err e) is = tt
 
 pub sent_is_log : {E : Type 0} (result : Result Sent E) (body : Body) (condition : Option Cond) (old new : BookState) → IsLog old → IfOk result (IsBodySent 1 condition body old new) → (Sound old → Sound new) → OnErr result (new ≡ old) → IsLog new
-sent_is_log (Ok at) body condition old new is sent sound err = record { sound = sound is.sound; engine = subst (λ (b : BookState). HasEngine 1 b) (sym sent.after) is.engine }
+sent_is_log (Ok found) body condition old new is sent sound err = record { sound = sound is.sound; engine = subst (λ (b : BookState). HasEngine 1 b) (sym sent.after) is.engine }
 sent_is_log (Err e) body condition old new is sent sound err = subst IsLog (sym err) is
 
 pub cut_is_log : {E : Type 0} (result : Result Cut E) (old new : BookState) → IsLog old → IfOk result (IsCut old new) → OnErr result (new ≡ old) → IsLog new
-cut_is_log (Ok at) old new is cut err = subst IsLog (sym cut.after) (at (cuts_nothing old))
+cut_is_log (Ok found) old new is cut err = subst IsLog (sym cut.after) (at (cuts_nothing old))
   where
     at : (t : Bool) → IsLog (cond t old (record old { vectors = progress_of old ∷ old.vectors }))
     at true = is

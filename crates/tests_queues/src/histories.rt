@@ -25,6 +25,7 @@ impl Generator {
     /// A number below a bound.
     fn below(&mut self, bound: u32) -> u32
         requires { 0 < bound }
+        ensures { result < bound }
     {
         self.state = self
             .state

@@ -141,7 +141,6 @@ fn order(book: &mut Book) -> Result<(), Memory>
 }
 
 /// What the pop at a place of the invocation's step log takes, or nothing where no pop stands there.
-#[tactic(auto, using(crate::proofs::Books::pop_at_place))]
 pub(crate) fn pop(
     alloc: Global,
     book: &Book,
@@ -168,7 +167,6 @@ pub(crate) fn pop(
 }
 
 /// What its queue holds behind the record at a place, or nothing where no push and no pop stands there.
-#[tactic(auto, using(crate::proofs::Books::queue_at_place))]
 pub(crate) fn values(
     alloc: Global,
     book: &Book,
