@@ -1,8 +1,9 @@
 //! Books of one engine, whose records are commits of one invocation.
-ghost use Rattle.std.specs.Prelude.{◌≡◌, IfOk, IsTrue};
+ghost use Rattle.std.specs.Prelude.{◌≡◌, ◌&&◌, IfOk, IsTrue};
+ghost use Rattle.std.specs.List.{list_all};
 ghost use Rattle.boki_model.specs.Bodies.{in_range as ranged, is_name as named, is_value as valued, is_step_id as step, are_names, is_short_list};
 ghost use Rattle.step_log.specs.Sound.{live_bodies};
-ghost use Rattle.boki_txn.specs.TxnStates.{AreTxnFolds};
+ghost use Rattle.boki_txn.specs.TxnStates.{AreTxnFolds, is_commit as commit};
 ghost use Rattle.tests_txn.specs.Logs.{IsLog};
 
 use boki_txn::TxnCache;
@@ -127,7 +128,9 @@ fn is_one_name(names: &[Words]) -> bool
     names.len() == 1 && is_name(&names[0])
 }
 
-fn is_one_write(writes: &[(Words, Value)]) -> bool {
+fn is_one_write(writes: &[(Words, Value)]) -> bool
+    ensures { IsTrue result → IsTrue (is_short_list writes.now && list_all (λ w. named w.0 && valued w.1) writes.now) }
+{
     writes.len() == 1 && is_name(&writes[0].0) && is_text(&writes[0].1)
 }
 
@@ -181,7 +184,9 @@ pub(crate) fn good(
     }
 }
 
-fn is_commit(body: &Body) -> bool {
+fn is_commit(body: &Body) -> bool
+    ensures { result ≡ commit body.now }
+{
     match body {
         Body::TxnCommit { .. } => true,
         _ => false,
