@@ -68,11 +68,7 @@ fn history(alloc: Global, generator: &mut Generator) -> Result<Vec<Change<'stati
 }
 
 // What a queue holds behind these records, the front first, by a plain scan.
-fn scan<'a>(
-    alloc: Global,
-    changes: &[Change<'a>],
-    queue: &str,
-) -> Result<Vec<&'a str>, Memory> {
+fn scan<'a>(alloc: Global, changes: &[Change<'a>], queue: &str) -> Result<Vec<&'a str>, Memory> {
     let mut waiting = Vec::new(alloc);
     for change in changes {
         match change {
@@ -104,7 +100,13 @@ fn pop_agrees(
     ensures { AreQueueFolds cache.new (live_bodies book.now) }
 {
     let waiting = scan(alloc, changes, queue)?;
-    pop_takes(alloc, book, cache, changes.len() as u64, waiting.first().copied())
+    pop_takes(
+        alloc,
+        book,
+        cache,
+        changes.len() as u64,
+        waiting.first().copied(),
+    )
 }
 
 // Whether the queue of the record at a place is told as the plain scan has it, and a pop there, too.

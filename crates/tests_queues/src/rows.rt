@@ -4,10 +4,8 @@ ghost use Rattle.boki_queue.specs.QueueStates.{AreQueueFolds};
 ghost use Rattle.tests_queues.specs.Logs.{IsLog};
 
 use crate::asking::{pop_takes, queue_holds};
-use crate::logs::{
-    Change::{self, Pop, Push},
-    log_of,
-};
+use crate::logs::Change::{self, Pop, Push};
+use crate::logs::log_of;
 use boki_queue::QueueCache;
 use book_api::Book;
 use lb_base::Memory;
@@ -21,12 +19,7 @@ enum Ask<'a> {
     Holds(u64, &'a [&'a str]),
 }
 
-fn is_told(
-    alloc: Global,
-    book: &Book,
-    cache: &mut QueueCache,
-    ask: Ask<'_>,
-) -> Result<bool, Memory>
+fn is_told(alloc: Global, book: &Book, cache: &mut QueueCache, ask: Ask<'_>) -> Result<bool, Memory>
     requires log { IsLog book.now }
     requires folds { AreQueueFolds cache.old (live_bodies book.now) }
     ensures { AreQueueFolds cache.new (live_bodies book.now) }
@@ -77,8 +70,7 @@ fn are_told_alone(
 fn tells(alloc: Global, changes: &[Change<'_>], asks: &[Ask<'_>]) -> Result<bool, Memory> {
     let book = log_of(alloc, changes)?;
     let mut cache = QueueCache::new(alloc)?;
-    Ok(are_told(alloc, &book, &mut cache, asks)?
-        && are_told_alone(alloc, &book, &mut cache, asks)?)
+    Ok(are_told(alloc, &book, &mut cache, asks)? && are_told_alone(alloc, &book, &mut cache, asks)?)
 }
 
 #[test]

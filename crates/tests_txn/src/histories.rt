@@ -95,12 +95,7 @@ fn scan(alloc: Global, commits: &[Commit<'_>]) -> Result<Vec<bool>, Memory> {
 }
 
 // The text of a name behind the first commits, or none, by a plain scan.
-fn text_of<'a>(
-    commits: &[Commit<'a>],
-    done: &[bool],
-    count: usize,
-    name: &str,
-) -> Option<&'a str> {
+fn text_of<'a>(commits: &[Commit<'a>], done: &[bool], count: usize, name: &str) -> Option<&'a str> {
     let mut text = None;
     for (commit, ok) in commits.iter().zip(done.iter()).take(count) {
         if *ok && commit.written == name {
@@ -129,8 +124,10 @@ fn values_agree(
         text_of(commits, done, count as usize, "b"),
         text_of(commits, done, count as usize, "c"),
     ];
-    Ok(value_is(book, cache, seq, "a", a)?
-        && values_are(alloc, book, cache, seq, ("c", "b"), (c, b))?)
+    Ok(
+        value_is(book, cache, seq, "a", a)?
+            && values_are(alloc, book, cache, seq, ("c", "b"), (c, b))?,
+    )
 }
 
 fn all_agree(
