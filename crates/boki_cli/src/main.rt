@@ -7,7 +7,7 @@ use cluster_run::Cluster;
 use lb_base::Memory;
 use nemesis::{Doubler, Killer, Loser};
 use std::env;
-use std::io::BufWriter;
+use std::io::{BufWriter, ErrorKind};
 use std::process::ExitCode;
 use std::sync::Wait;
 use std::thread::Threads;
@@ -15,8 +15,11 @@ use std::thread::Threads;
 /// The words of the command line, without the program's name.
 fn words_of(rt: &HostRuntime) -> Result<Vec<String>, Memory> {
     let mut words = Vec::new(rt.alloc());
-    let Ok(args) = env::args(rt) else {
-        return Err(Memory);
+    let args = match env::args(rt) {
+        Ok(args) => args,
+        // A word that isn't UTF-8 is no word of a command. No words at all are answered alike.
+        Err(error) if error.kind() == ErrorKind::InvalidData => return Ok(words),
+        Err(_) => return Err(Memory),
     };
     for word in args.skip(1) {
         words.push(word)?;
